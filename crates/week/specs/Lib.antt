@@ -1,0 +1,2 @@
+pub mod Week
+pub mod Release

@@ -1,0 +1,28 @@
+ghost use mathlib.Core.Path.{_≡_};
+ghost use Rattle.std.specs.Orderings.{Decides};
+ghost use Rattle.week.specs.Release.{Judges};
+
+// What the release check says of a build.
+#[derive(Clone, Copy, PartialEq, Eq, Debug)]
+pub enum Verdict {
+    MayLeave,
+    Stays,
+}
+
+// Whether two saves hold the same bytes.
+pub fn alike(first: &[u8], second: &[u8]) -> bool
+    ensures { λ r. ⌜ Decides r (now (first .entry) ≡ now (second .entry)) ⌝ }
+{
+    first == second
+}
+
+// A build may leave exactly if its two saves are alike.
+pub fn judge(first: &[u8], second: &[u8]) -> Verdict
+    ensures { λ r. ⌜ Judges (now (first .entry)) (now (second .entry)) r ⌝ }
+{
+    if alike(first, second) {
+        Verdict::MayLeave
+    } else {
+        Verdict::Stays
+    }
+}
