@@ -19,15 +19,15 @@ use Rattle.week.specs.Week.{dayPart}
 pub drop-min : {X : Type 0} (xs : List X) (n : ℕ) → drop (min (length xs) n) xs ≡ drop n xs
 drop-min xs n =
     elim (cases-lt n (length xs)) [
-      inl h ↦ ap (λ k. drop k xs) (omega arith)
-    | inr h ↦ drop-all (min (length xs) n) xs (omega arith) ∙ sym (drop-all n xs h)
+      | inl h ↦ ap (λ k. drop k xs) (omega arith)
+      | inr h ↦ drop-all (min (length xs) n) xs (omega arith) ∙ sym (drop-all n xs h)
     ]
 
 pub take-min : {X : Type 0} (xs : List X) (n : ℕ) → take (min (length xs) n) xs ≡ take n xs
 take-min xs n =
     elim (cases-lt n (length xs)) [
-      inl h ↦ ap (λ k. take k xs) (omega arith)
-    | inr h ↦ take-all (min (length xs) n) xs (omega arith) ∙ sym (take-all n xs h)
+      | inl h ↦ ap (λ k. take k xs) (omega arith)
+      | inr h ↦ take-all (min (length xs) n) xs (omega arith) ∙ sym (take-all n xs h)
     ]
 
 next-row : (i width : ℕ) → (i + 1) * width ≡ i * width + width
@@ -42,14 +42,14 @@ upTo-more width bs k h =
     let t : ltb k 7 ≡ true = lt-ltb k 7 h in
     let s = next-row k width in
     elim (cases-lt k 6) [
-      inl l ↦
-        let d : ltb k 6 ≡ true = lt-ltb k 6 l in
-        let u : ltb (k + 1) 7 ≡ true = lt-ltb (k + 1) 7 (omega arith) in
-        rw (t, d, u, s) (sym (take-add (k * width) width bs))
-    | inr l ↦
-        let d : ltb k 6 ≡ false = le-ltb k 6 l in
-        let u : ltb (k + 1) 7 ≡ false = le-ltb (k + 1) 7 (omega arith) in
-        rw (t, d, u) (take-append-drop (k * width) bs)
+      | inl l ↦
+          let d : ltb k 6 ≡ true = lt-ltb k 6 l in
+          let u : ltb (k + 1) 7 ≡ true = lt-ltb (k + 1) 7 (omega arith) in
+          rw (t, d, u, s) (sym (take-add (k * width) width bs))
+      | inr l ↦
+          let d : ltb k 6 ≡ false = le-ltb k 6 l in
+          let u : ltb (k + 1) 7 ≡ false = le-ltb (k + 1) 7 (omega arith) in
+          rw (t, d, u) (take-append-drop (k * width) bs)
     ]
 
 -- one content more at the end of those that are known

@@ -1,2 +1,3 @@
 pub mod Week
 pub mod Release
+pub mod Drawing

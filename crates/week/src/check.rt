@@ -1,0 +1,45 @@
+ghost use mathlib.Core.Path.{_≡_};
+ghost use Rattle.week.specs.declared.fault.CheckFault.the-variants.{Day as DayFault, Save as SaveFault};
+ghost use Rattle.week.specs.Release.{Checks};
+use crate::compare::judge;
+use crate::day::RefusedDay;
+use crate::fault::CheckFault;
+use crate::verdict::Checked;
+use crate::week::Week;
+use kinds::fault::ContentFault;
+use kinds::kind::Kind;
+
+pub impl From<RefusedDay> for CheckFault as CheckFaultFromDay {
+    ghost converts = { λ e r. r ≡ DayFault e };
+
+    fn from(e: RefusedDay) -> CheckFault {
+        CheckFault::Day(e)
+    }
+}
+
+pub impl From<ContentFault> for CheckFault as CheckFaultFromContent {
+    ghost converts = { λ e r. r ≡ SaveFault e };
+
+    fn from(e: ContentFault) -> CheckFault {
+        CheckFault::Save(e)
+    }
+}
+
+// The release check: loads a week, saves it twice, and compares the saves. A refused week saves nothing.
+pub fn check_week<K: Kind>(
+    bytes: &[u8],
+    first: &mut [u8],
+    second: &mut [u8],
+) -> Result<Checked<K>, CheckFault>
+    ensures { λ r. ⌜ Checks (K·Kind .width) (K·Kind .bytes) (K·Kind .refusal) (now (bytes .entry)) (now (first .entry)) (now (second .entry)) (now (first .exit)) (now (second .exit)) r ⌝ }
+{
+    let week = Week::<K>::load(bytes)?;
+    let size = 7 * K::width();
+    if first.len() != size || second.len() != size {
+        return Err(CheckFault::Save(ContentFault::WrongLength));
+    }
+    week.save(first)?;
+    week.save(second)?;
+    let verdict = judge(first, second);
+    Ok(Checked { week, verdict })
+}

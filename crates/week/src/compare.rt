@@ -1,13 +1,7 @@
 ghost use mathlib.Core.Path.{_≡_};
 ghost use Rattle.std.specs.Orderings.{Decides};
 ghost use Rattle.week.specs.Release.{Judges};
-
-// What the release check says of a build.
-#[derive(Clone, Copy, PartialEq, Eq, Debug)]
-pub enum Verdict {
-    MayLeave,
-    Stays,
-}
+use crate::verdict::Verdict;
 
 // Whether two saves hold the same bytes.
 pub fn alike(first: &[u8], second: &[u8]) -> bool

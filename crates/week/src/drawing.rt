@@ -1,0 +1,46 @@
+ghost use mathlib.Core.Path.{_≡_};
+ghost use mathlib.Core.List.{map};
+ghost use Rattle.std.specs.declared.option.Option.the-variants.{Some};
+ghost use Rattle.week.specs.Drawing.{signOf, hoursIn};
+use kinds::row::DayRow;
+use kinds::row::HourMode;
+use kinds::row::HourModePartialEq;
+use std::fmt;
+
+// How an hour is drawn: a dot for off, a dash for low, a hash for comfort.
+pub fn sign(mode: HourMode) -> char
+    ensures { λ r. ⌜ r ≡ signOf mode ⌝ }
+{
+    match mode {
+        HourMode::Off => '.',
+        HourMode::Low => '-',
+        HourMode::Comfort => '#',
+    }
+}
+
+// How many hours of the day are in a mode.
+pub fn hours_in(row: &DayRow, mode: HourMode) -> usize
+    ensures { λ r. ⌜ r ≡ hoursIn mode (now (row .entry) .hours) ⌝ }
+{
+    let mut count = 0;
+    for i in 0..24 {
+        if row.hours[i] == mode {
+            count += 1;
+        }
+    }
+    count
+}
+
+// A day as 24 characters, midnight first.
+#[derive(Clone, Copy)]
+pub struct Drawn<'a>(pub &'a DayRow);
+
+pub impl fmt::Display for Drawn<'_> as DrawnDisplay {
+    fn fmt<W: fmt::Write>(&self, f: &mut fmt::Formatter<W>) -> fmt::Result {
+        for i in 0..24 {
+            let drawn = sign(self.0.hours[i]);
+            write!(f, "{drawn}")?;
+        }
+        Ok(())
+    }
+}

@@ -4,6 +4,8 @@ pub mod compare;
 pub mod day;
 pub mod day_order;
 pub mod drawing;
+pub mod fault;
 pub mod report;
 pub mod stored;
+pub mod verdict;
 pub mod week;

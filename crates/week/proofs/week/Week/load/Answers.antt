@@ -30,7 +30,7 @@ loop-i-again g c =
     let in-week : i < length (c .loop-i .days) = omega (arith, c .loop-i .inv .0) in (
       search needs,
       joined-set (g .K·Kind .bytes) (c .loop-i .days) i x in-week ∙ ap (λ bs. bs ++ g .K·Kind .bytes x) (c .loop-i .inv .1)
-      ∙ ap (λ part. upTo (g .K·Kind .width) bs i ++ part) written ∙ upTo-more (g .K·Kind .width) bs i (omega arith),
+          ∙ ap (λ part. upTo (g .K·Kind .width) bs i ++ part) written ∙ upTo-more (g .K·Kind .width) bs i (omega arith),
       below-more _ _ (c .loop-i .inv .2) (sym (ap (g .K·Kind .refusal) written) ∙ g .K·Kind·met .kept x),
     )
 

@@ -33,6 +33,7 @@ returns g c =
     let all : c .loop-i .i ≡ 7 = omega arith in
     let to = c .loop-i .to in
     let same = c .loop-i .inv in
-    let size : length to ≤ c .loop-i .i * c .width-width .result = rw all (omega arith) in
-    (c .if-to-width .left ∙ ap (λ w. 7 * w) (c .width-width .ensures),
-      sym (take-all (c .loop-i .i * c .width-width .result) to size) ∙ same ∙ ap (joined (g .K·Kind .bytes)) (take-all (c .loop-i .i) (c .args .self .now .days) (omega (arith, c .args .self .now .whole))))
+    let size : length to ≤ c .loop-i .i * c .width-width .result = rw all (omega arith) in (
+      c .if-to-width .left ∙ ap (λ w. 7 * w) (c .width-width .ensures),
+      sym (take-all (c .loop-i .i * c .width-width .result) to size) ∙ same ∙ ap (joined (g .K·Kind .bytes)) (take-all (c .loop-i .i) (c .args .self .now .days) (omega (arith, c .args .self .now .whole))),
+    )
