@@ -1,4 +1,6 @@
 // What every refusal names: the layer that refused, its number in the table of refusals, and a place.
+ghost use Rattle.std.specs.declared.option.Option.the-variants.{Some};
+ghost use Rattle.refusal.specs.Text.{layerText, placeText, refusalText};
 use std::fmt;
 
 // The libraries that refuse, from the bottom up.
@@ -27,6 +29,8 @@ pub struct Refusal {
 }
 
 pub impl fmt::Display for Layer as LayerDisplay {
+    ghost shown = { λ x. Some (layerText x) };
+
     fn fmt<W: fmt::Write>(&self, f: &mut fmt::Formatter<W>) -> fmt::Result {
         match self {
             Layer::Kind => write!(f, "kind"),
@@ -37,6 +41,8 @@ pub impl fmt::Display for Layer as LayerDisplay {
 }
 
 pub impl fmt::Display for Place as PlaceDisplay {
+    ghost shown = { λ x. Some (placeText x) };
+
     fn fmt<W: fmt::Write>(&self, f: &mut fmt::Formatter<W>) -> fmt::Result {
         match self {
             Place::Zero => write!(f, "0"),
@@ -47,6 +53,8 @@ pub impl fmt::Display for Place as PlaceDisplay {
 }
 
 pub impl fmt::Display for Refusal as RefusalDisplay {
+    ghost shown = { λ x. Some (refusalText x) };
+
     fn fmt<W: fmt::Write>(&self, f: &mut fmt::Formatter<W>) -> fmt::Result {
         let layer = self.layer;
         let number = self.number;

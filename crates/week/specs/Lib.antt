@@ -1,3 +1,4 @@
 pub mod Week
 pub mod Release
 pub mod Drawing
+pub mod Report

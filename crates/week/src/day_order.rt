@@ -1,5 +1,6 @@
 ghost use mathlib.Core.Path.{_≡_};
 ghost use Prim.Native.Nat.{_<_};
+ghost use Rattle.week.specs.Report.{dayText};
 ghost use Rattle.week.specs.Week.{dayIndex};
 use crate::day::Day;
 
@@ -20,7 +21,9 @@ impl Day {
         }
     }
 
-    pub fn name(self) -> &'static str {
+    pub fn name(self) -> &'static str
+        ensures { λ r. ⌜ now r ≡ dayText self ⌝ }
+    {
         match self {
             Day::Monday => "Monday",
             Day::Tuesday => "Tuesday",

@@ -1,5 +1,6 @@
 ghost use mathlib.Core.Path.{_≡_};
 ghost use mathlib.Core.List.{map};
+ghost use denote.Ref.{now};
 ghost use Rattle.std.specs.declared.option.Option.the-variants.{Some};
 ghost use Rattle.week.specs.Drawing.{signOf, hoursIn};
 use kinds::row::DayRow;
@@ -36,6 +37,8 @@ pub fn hours_in(row: &DayRow, mode: HourMode) -> usize
 pub struct Drawn<'a>(pub &'a DayRow);
 
 pub impl fmt::Display for Drawn<'_> as DrawnDisplay {
+    ghost shown = { λ d. Some (map signOf (now (d .0) .hours)) };
+
     fn fmt<W: fmt::Write>(&self, f: &mut fmt::Formatter<W>) -> fmt::Result {
         for i in 0..24 {
             let drawn = sign(self.0.hours[i]);

@@ -1,4 +1,7 @@
 // The release check's report, as a person reads it.
+ghost use mathlib.Core.Path.{_≡_};
+ghost use Rattle.std.specs.declared.option.Option.the-variants.{Some};
+ghost use Rattle.week.specs.Report.{verdictText, subjectText, contentOf, reasonText, refusedText};
 use crate::day::Day;
 use crate::drawing::Drawn;
 use crate::drawing::DrawnDisplay;
@@ -16,6 +19,8 @@ use std::fmt;
 pub const WEEK_BYTES: usize = 42;
 
 pub impl fmt::Display for Verdict as VerdictDisplay {
+    ghost shown = { λ v. Some (verdictText v) };
+
     fn fmt<W: fmt::Write>(&self, f: &mut fmt::Formatter<W>) -> fmt::Result {
         match self {
             Verdict::MayLeave => write!(f, "Verdict: the build may leave; both saves are alike."),
@@ -63,27 +68,37 @@ pub struct Refused {
 }
 
 pub impl fmt::Display for Refused as RefusedDisplay {
+    ghost shown = { λ r. Some (refusedText (r .fault) (r .length)) };
+
     fn fmt<W: fmt::Write>(&self, f: &mut fmt::Formatter<W>) -> fmt::Result {
-        let fault = match self.fault {
-            CheckFault::Day(refused) => {
-                let name = refused.day.name();
-                write!(f, "{name}")?;
-                refused.fault
-            }
-            CheckFault::Save(fault) => {
-                write!(f, "A save")?;
-                fault
-            }
-        };
+        let subject = subject(self.fault);
+        let fault = content(self.fault);
         let refusal = fault.refusal();
         let reason = Reason {
             fault,
             length: self.length,
         };
         let verdict = Verdict::Stays;
-        writeln!(f, " is refused: {refusal}")?;
-        writeln!(f, "Reason: {reason}")?;
-        write!(f, "{verdict}")
+        write!(f, "{subject} is refused: {refusal}\nReason: {reason}\n{verdict}")
+    }
+}
+
+// What was refused, in words.
+fn subject(fault: CheckFault) -> &'static str
+    ensures { λ r. ⌜ now r ≡ subjectText fault ⌝ }
+{
+    match fault {
+        CheckFault::Day(refused) => refused.day.name(),
+        CheckFault::Save(_) => "A save",
+    }
+}
+
+fn content(fault: CheckFault) -> ContentFault
+    ensures { λ r. ⌜ r ≡ contentOf fault ⌝ }
+{
+    match fault {
+        CheckFault::Day(refused) => refused.fault,
+        CheckFault::Save(fault) => fault,
     }
 }
 
@@ -95,6 +110,8 @@ struct Reason {
 }
 
 impl fmt::Display for Reason as ReasonDisplay {
+    ghost shown = { λ r. Some (reasonText (r .fault) (r .length)) };
+
     fn fmt<W: fmt::Write>(&self, f: &mut fmt::Formatter<W>) -> fmt::Result {
         let length = self.length;
         match self.fault {
@@ -104,9 +121,9 @@ impl fmt::Display for Reason as ReasonDisplay {
             ),
             ContentFault::WrongLength if length < WEEK_BYTES => write!(
                 f,
-                "the week ends after {length} of {WEEK_BYTES} bytes"
+                "the week ends after {length} of 42 bytes"
             ),
-            ContentFault::WrongLength => write!(f, "the week goes on after {WEEK_BYTES} bytes"),
+            ContentFault::WrongLength => write!(f, "the week goes on after 42 bytes"),
         }
     }
 }

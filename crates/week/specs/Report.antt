@@ -1,0 +1,49 @@
+-- The words of the report on a refused week, and of the verdict.
+use mathlib.Core.Bool.{cond}
+use mathlib.Core.List.{List, _++_}
+use Prim.Native.Nat.{ℕ}
+use lib.Chars.{codes}
+use lib.Dec.{ltb}
+use Rattle.std.specs.Written.{decimal}
+use Rattle.refusal.specs.Text.{refusalText}
+use Rattle.kinds.specs.declared.fault.ContentFault.{ContentFault}
+use Rattle.kinds.specs.declared.fault.ContentFault.the-variants.{WrongLength, BadContent}
+use Rattle.kinds.specs.Fault.{refusalOf}
+use Rattle.week.specs.declared.day.Day.{Day}
+use Rattle.week.specs.declared.day.Day.the-variants.{Monday, Tuesday, Wednesday, Thursday, Friday, Saturday, Sunday}
+use Rattle.week.specs.declared.fault.CheckFault.{CheckFault}
+use Rattle.week.specs.declared.fault.CheckFault.the-variants.{Day as DayFault, Save as SaveFault}
+use Rattle.week.specs.declared.verdict.Verdict.{Verdict}
+use Rattle.week.specs.declared.verdict.Verdict.the-variants.{MayLeave, Stays}
+
+abbrev pub dayText : Day → List ℕ
+dayText Monday = codes "Monday"
+dayText Tuesday = codes "Tuesday"
+dayText Wednesday = codes "Wednesday"
+dayText Thursday = codes "Thursday"
+dayText Friday = codes "Friday"
+dayText Saturday = codes "Saturday"
+dayText Sunday = codes "Sunday"
+
+abbrev pub verdictText : Verdict → List ℕ
+verdictText MayLeave = codes "Verdict: the build may leave; both saves are alike."
+verdictText Stays = codes "Verdict: the build stays."
+
+-- what was refused
+abbrev pub subjectText : CheckFault → List ℕ
+subjectText (DayFault e) = dayText (e .day)
+subjectText (SaveFault e) = codes "A save"
+
+abbrev pub contentOf : CheckFault → ContentFault
+contentOf (DayFault e) = e .fault
+contentOf (SaveFault e) = e
+
+-- why, for a week of day rows of which n bytes were read
+abbrev pub reasonText : ContentFault → ℕ → List ℕ
+reasonText BadContent n = codes "an hour of the day is 3, which is neither off, low nor comfort"
+reasonText WrongLength n =
+    cond (ltb n 42) (codes "the week ends after " ++ (decimal n ++ codes " of 42 bytes")) (codes "the week goes on after 42 bytes")
+
+abbrev pub refusedText : CheckFault → ℕ → List ℕ
+refusedText e n =
+    subjectText e ++ (codes " is refused: " ++ (refusalText (refusalOf (contentOf e)) ++ (codes "\nReason: " ++ (reasonText (contentOf e) n ++ (codes "\n" ++ verdictText Stays)))))
