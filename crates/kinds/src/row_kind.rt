@@ -1,6 +1,7 @@
 ghost use mathlib.Core.Path.{_≡_};
 ghost use Prim.Native.Nat.{ℕ, _<_};
-ghost use Rattle.kinds.specs.Row.{modeOf, codeOf, rowByte, rowBytes, rowRefusal, RowFormat};
+ghost use lib.ListN.{length};
+ghost use Rattle.kinds.specs.Row.{modeOf, codeOf, hourBits, rowByte, rowBytes, rowRefusal, RowFormat};
 use crate::fault::ContentFault;
 use crate::kind::Kind;
 use crate::row::DayRow;
@@ -30,6 +31,16 @@ impl HourMode {
     }
 }
 
+const WIDTH: usize = 6;
+
+// The two bits in which a row's bytes hold an hour.
+fn code_at(from: &[u8], hour: usize) -> u8
+    requires { ⌜ length (now from) ≡ 6 ⌝ ∗ ⌜ hour < 24 ⌝ }
+    ensures { λ r. ⌜ r ≡ hourBits (now (from .entry)) hour ⌝ }
+{
+    (from[hour / 4] >> (2 * (hour % 4))) % 4
+}
+
 impl DayRow {
     // The byte that holds the hours 4 * i to 4 * i + 3.
     fn packed(&self, i: usize) -> u8
@@ -50,17 +61,16 @@ pub impl Kind for DayRow as DayRowKind {
     ghost refusal = { rowRefusal };
 
     fn width() -> usize {
-        6
+        WIDTH
     }
 
     fn read(from: &[u8]) -> Result<DayRow, ContentFault> {
-        if from.len() != 6 {
+        if from.len() != WIDTH {
             return Err(ContentFault::WrongLength);
         }
         let mut hours = [HourMode::Off; 24];
         for i in 0..24 {
-            let code = (from[i / 4] >> (2 * (i % 4))) & 3;
-            let Some(mode) = HourMode::from_code(code) else {
+            let Some(mode) = HourMode::from_code(code_at(from, i)) else {
                 return Err(ContentFault::BadContent);
             };
             hours[i] = mode;
@@ -69,10 +79,10 @@ pub impl Kind for DayRow as DayRowKind {
     }
 
     fn write(&self, to: &mut [u8]) -> Result<(), ContentFault> {
-        if to.len() != 6 {
+        if to.len() != WIDTH {
             return Err(ContentFault::WrongLength);
         }
-        for i in 0..6 {
+        for i in 0..WIDTH {
             to[i] = self.packed(i);
         }
         Ok(())

@@ -4,6 +4,8 @@ use crate::fault::ContentFault;
 use crate::kind::Kind;
 use crate::valve::Valve;
 
+const WIDTH: usize = 4;
+
 pub impl Kind for Valve as ValveKind {
     ghost width = { 4 };
 
@@ -12,7 +14,7 @@ pub impl Kind for Valve as ValveKind {
     ghost refusal = { valveRefusal };
 
     fn width() -> usize {
-        4
+        WIDTH
     }
 
     fn read(from: &[u8]) -> Result<Valve, ContentFault> {
@@ -31,7 +33,7 @@ pub impl Kind for Valve as ValveKind {
     }
 
     fn write(&self, to: &mut [u8]) -> Result<(), ContentFault> {
-        if to.len() != 4 {
+        if to.len() != WIDTH {
             return Err(ContentFault::WrongLength);
         }
         let [low, high] = self.setpoint.to_le_bytes();

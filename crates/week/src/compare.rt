@@ -3,11 +3,18 @@ ghost use Rattle.std.specs.Orderings.{Decides};
 ghost use Rattle.week.specs.Release.{Judges};
 use crate::verdict::Verdict;
 
-// Whether two saves hold the same bytes.
+// The library's `==` on slices, as one fact about the whole of both.
+fn equal(a: &[u8], b: &[u8]) -> bool
+    ensures { λ r. ⌜ Decides r (now (a .entry) ≡ now (b .entry)) ⌝ }
+{
+    a == b
+}
+
+// Whether two saves are alike: exactly if they hold the same bytes.
 pub fn alike(first: &[u8], second: &[u8]) -> bool
     ensures { λ r. ⌜ Decides r (now (first .entry) ≡ now (second .entry)) ⌝ }
 {
-    first == second
+    equal(first, second)
 }
 
 // A build may leave exactly if its two saves are alike.

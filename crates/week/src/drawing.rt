@@ -1,11 +1,11 @@
 ghost use mathlib.Core.Path.{_≡_};
+ghost use mathlib.Core.Bool.{cond};
 ghost use mathlib.Core.List.{map};
 ghost use denote.Ref.{now};
 ghost use Rattle.std.specs.declared.option.Option.the-variants.{Some};
-ghost use Rattle.week.specs.Drawing.{signOf, hoursIn};
+ghost use Rattle.week.specs.Drawing.{signOf, sameMode, hoursIn};
 use kinds::row::DayRow;
 use kinds::row::HourMode;
-use kinds::row::HourModePartialEq;
 use std::fmt;
 
 // How an hour is drawn: a dot for off, a dash for low, a hash for comfort.
@@ -19,15 +19,20 @@ pub fn sign(mode: HourMode) -> char
     }
 }
 
+// 1 for an hour that is in the mode, else 0.
+fn tally(hour: HourMode, mode: HourMode) -> usize
+    ensures { λ r. ⌜ r ≡ cond (sameMode hour mode) 1 0 ⌝ }
+{
+    if hour.code() == mode.code() { 1 } else { 0 }
+}
+
 // How many hours of the day are in a mode.
 pub fn hours_in(row: &DayRow, mode: HourMode) -> usize
     ensures { λ r. ⌜ r ≡ hoursIn mode (now (row .entry) .hours) ⌝ }
 {
     let mut count = 0;
     for i in 0..24 {
-        if row.hours[i] == mode {
-            count += 1;
-        }
+        count += tally(row.hours[i], mode);
     }
     count
 }

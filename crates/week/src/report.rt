@@ -1,7 +1,8 @@
 // The release check's report, as a person reads it.
 ghost use mathlib.Core.Path.{_≡_};
+ghost use denote.Ref.{now};
 ghost use Rattle.std.specs.declared.option.Option.the-variants.{Some};
-ghost use Rattle.week.specs.Report.{verdictText, subjectText, contentOf, reasonText, refusedText};
+ghost use Rattle.week.specs.Report.{verdictText, lineText, subjectText, contentOf, reasonText, refusedText};
 use crate::day::Day;
 use crate::drawing::Drawn;
 use crate::drawing::DrawnDisplay;
@@ -29,6 +30,25 @@ pub impl fmt::Display for Verdict as VerdictDisplay {
     }
 }
 
+// One day of the week: its hours drawn, its name, and how many hours are comfort and low.
+#[derive(Clone, Copy)]
+pub struct DayLine<'a> {
+    pub day: Day,
+    pub row: &'a DayRow,
+}
+
+pub impl fmt::Display for DayLine<'_> as DayLineDisplay {
+    ghost shown = { λ l. Some (lineText (l .day) (now (l .row))) };
+
+    fn fmt<W: fmt::Write>(&self, f: &mut fmt::Formatter<W>) -> fmt::Result {
+        let drawn = Drawn(self.row);
+        let name = self.day.name();
+        let comfort = hours_in(self.row, HourMode::Comfort);
+        let low = hours_in(self.row, HourMode::Low);
+        write!(f, "{drawn}  {name}: comfort {comfort} h, low {low} h")
+    }
+}
+
 // A week that was loaded and saved twice, with the number of bytes of each save.
 #[derive(Clone, Copy)]
 pub struct Accepted<'a> {
@@ -41,15 +61,11 @@ pub impl fmt::Display for Accepted<'_> as AcceptedDisplay {
     fn fmt<W: fmt::Write>(&self, f: &mut fmt::Formatter<W>) -> fmt::Result {
         writeln!(f, "Hours from midnight: '.' off, '-' low, '#' comfort")?;
         for i in 0..7 {
-            let row = &self.checked.week.days[i];
-            let name = Day::at(i).name();
-            let drawn = Drawn(row);
-            let comfort = hours_in(row, HourMode::Comfort);
-            let low = hours_in(row, HourMode::Low);
-            writeln!(
-                f,
-                "{name:<9} {drawn}  comfort {comfort:>2} h, low {low:>2} h"
-            )?;
+            let line = DayLine {
+                day: Day::at(i),
+                row: &self.checked.week.days[i],
+            };
+            writeln!(f, "{line}")?;
         }
         let first = self.first;
         let second = self.second;
@@ -79,7 +95,10 @@ pub impl fmt::Display for Refused as RefusedDisplay {
             length: self.length,
         };
         let verdict = Verdict::Stays;
-        write!(f, "{subject} is refused: {refusal}\nReason: {reason}\n{verdict}")
+        write!(
+            f,
+            "{subject} is refused: {refusal}\nReason: {reason}\n{verdict}"
+        )
     }
 }
 

@@ -1,11 +1,9 @@
 use mathlib.Core.Path.{_≡_, ap, _∙_, sym}
 use mathlib.Core.Bool.{false}
-use Prim.Native.Nat.{ℕ, _≤_, _<_, _*_, _/_, _%_, _^_}
+use Prim.Native.Nat.{ℕ}
 use native.Mathlib.Omega.{arith}
-use lib.ListN.{length, getD}
 use borrow.Author.Count.{below-more}
 use borrow.Author.Needs.{needs}
-use Rattle.std.proofs.shelf.Bits.{and-mask}
 use Rattle.std.proofs.shelf.Lists.{getD-set-same, getD-set-other}
 use Rattle.std.specs.declared.option.Option.the-variants.{Some, None}
 use Rattle.kinds.specs.declared.row.HourMode.the-variants.{Off}
@@ -17,17 +15,15 @@ pub returns-in-rest : need.returns-in-rest
 returns-in-rest c =
     let bs = c .args .from .now in
     let i = c .loop-i .i in
-    let mask = and-mask (getD bs (i / 4) 0 / 2 ^ (2 * (i % 4))) 2 in
-    let none : modeOf (hourBits bs i) ≡ None = sym (ap modeOf mask) ∙ sym (c .from-code .ensures) ∙ c .in-rest .is in
+    let none : modeOf (hourBits bs i) ≡ None = sym (ap modeOf (c .code-at .ensures)) ∙ sym (c .from-code .ensures) ∙ c .in-rest .is in
     let bad : hoursLegal bs 24 ≡ false = one-illegal bs 24 i (omega arith) (no-mode (hourBits bs i) none) in
-    rw (c .if-from-ne6 .left, bad)
+    rw (c .if-from-ne-WIDTH .left, bad)
 
 pub loop-i-again : need.loop-i-again
 loop-i-again c =
     let bs = c .args .from .now in
     let i = c .loop-i .i in
-    let mask = and-mask (getD bs (i / 4) 0 / 2 ^ (2 * (i % 4))) 2 in
-    let some : modeOf (hourBits bs i) ≡ Some (c .in-Some .mode) = sym (ap modeOf mask) ∙ sym (c .from-code .ensures) ∙ c .in-Some .is in (
+    let some : modeOf (hourBits bs i) ≡ Some (c .in-Some .mode) = sym (ap modeOf (c .code-at .ensures)) ∙ sym (c .from-code .ensures) ∙ c .in-Some .is in (
       search needs,
       below-more _ _
           (λ k h. ap codeOf (getD-set-other (c .loop-i .hours) i k _ Off (omega arith)) ∙ c .loop-i .inv .1 k h)
