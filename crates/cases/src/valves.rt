@@ -109,7 +109,7 @@ fn round_trips() -> Result<(), Fail> {
     Ok(())
 }
 
-// A length other than 4 is refused with layer kind, number 21, place 0, and nothing is written.
+// A length other than 4 is refused, and nothing is written.
 #[test]
 fn lengths() -> Result<(), Fail> {
     let valve = Valve {
@@ -119,18 +119,28 @@ fn lengths() -> Result<(), Fail> {
     };
     for n in 0..66 {
         let mut bytes = [1u8; 66];
-        let read = Valve::read(&bytes[0..n]);
+        match Valve::read(&bytes[0..n]) {
+            Ok(_) => check_eq(n, 4)?,
+            Err(fault) => check(fault.is_length() && n != 4)?,
+        }
         let wrote = valve.write(&mut bytes[0..n]);
-        check_eq(read.is_ok(), n == 4)?;
         check_eq(wrote.is_ok(), n == 4)?;
         if let Err(fault) = wrote {
             check_eq(fault, ContentFault::WrongLength)?;
             check_eq(bytes, [1u8; 66])?;
-            let refusal = fault.refusal();
-            check_eq(refusal.layer, Layer::Kind)?;
-            check_eq(refusal.number, 21)?;
-            check_eq(refusal.place, Place::Zero)?;
         }
+    }
+    Ok(())
+}
+
+// Both cases of the fault are refusal 21 of the kinds at place 0.
+#[test]
+fn refusals() -> Result<(), Fail> {
+    for fault in [ContentFault::WrongLength, ContentFault::BadContent].iter() {
+        let refusal = fault.refusal();
+        check_eq(refusal.layer, Layer::Kind)?;
+        check_eq(refusal.number, 21)?;
+        check_eq(refusal.place, Place::Zero)?;
     }
     Ok(())
 }

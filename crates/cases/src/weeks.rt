@@ -8,6 +8,7 @@ use kinds::valve_kind::ValveKind;
 use std::test::*;
 use week::check::check_week;
 use week::compare::alike;
+use week::compare::judge;
 use week::day::Day;
 use week::day::DayDebug;
 use week::day::DayPartialEq;
@@ -95,41 +96,42 @@ fn bad_hours() -> Result<(), Fail> {
     Ok(())
 }
 
+static VALVES: [u8; 28] = [
+    100,
+    0,
+    50,
+    1,
+    100,
+    0,
+    50,
+    1,
+    100,
+    0,
+    50,
+    1,
+    100,
+    0,
+    50,
+    1,
+    100,
+    0,
+    50,
+    1,
+    100,
+    0,
+    50,
+    1,
+    100,
+    0,
+    50,
+    1,
+];
+
 // Whether seven valve records are saved into slices of these lengths; both slices stay as they were if not.
 fn saved(first: &mut [u8], second: &mut [u8]) -> Result<bool, Fail> {
-    let week = [
-        100,
-        0,
-        50,
-        1,
-        100,
-        0,
-        50,
-        1,
-        100,
-        0,
-        50,
-        1,
-        100,
-        0,
-        50,
-        1,
-        100,
-        0,
-        50,
-        1,
-        100,
-        0,
-        50,
-        1,
-        100,
-        0,
-        50,
-        1,
-    ];
-    match check_week::<Valve>(&week, first, second) {
+    match check_week::<Valve>(&VALVES, first, second) {
         Ok(_) => {
-            check(alike(first, &week) && alike(second, &week))?;
+            check(alike(first, &VALVES) && alike(second, &VALVES))?;
             Ok(true)
         }
         Err(fault) => {
@@ -159,30 +161,40 @@ fn saves() -> Result<(), Fail> {
 }
 
 struct Words {
-    day: Day,
-    fault: ContentFault,
+    fault: CheckFault,
     length: usize,
     text: &'static str,
 }
 
-static WORDS: [Words; 3] = [
+static WORDS: [Words; 4] = [
     Words {
-        day: Day::Thursday,
-        fault: ContentFault::WrongLength,
+        fault: CheckFault::Day(RefusedDay {
+            day: Day::Thursday,
+            fault: ContentFault::WrongLength,
+        }),
         length: 20,
         text: "Thursday is refused: layer kind, number 21, place 0\nReason: the week ends after 20 of 42 bytes\nVerdict: the build stays.",
     },
     Words {
-        day: Day::Sunday,
-        fault: ContentFault::WrongLength,
+        fault: CheckFault::Day(RefusedDay {
+            day: Day::Sunday,
+            fault: ContentFault::WrongLength,
+        }),
         length: 43,
         text: "Sunday is refused: layer kind, number 21, place 0\nReason: the week goes on after 42 bytes\nVerdict: the build stays.",
     },
     Words {
-        day: Day::Tuesday,
-        fault: ContentFault::BadContent,
+        fault: CheckFault::Day(RefusedDay {
+            day: Day::Tuesday,
+            fault: ContentFault::BadContent,
+        }),
         length: 42,
         text: "Tuesday is refused: layer kind, number 21, place 0\nReason: an hour of the day is 3, which is neither off, low nor comfort\nVerdict: the build stays.",
+    },
+    Words {
+        fault: CheckFault::Save(ContentFault::WrongLength),
+        length: 42,
+        text: "A save is refused: layer kind, number 21, place 0\nReason: the slice for it is not as long as the week\nVerdict: the build stays.",
     },
 ];
 
@@ -190,12 +202,8 @@ static WORDS: [Words; 3] = [
 #[test]
 fn refusals_in_words(rt: LibcRuntime) -> Result<(), Fail> {
     for case in WORDS.iter() {
-        let day = RefusedDay {
-            day: case.day,
-            fault: case.fault,
-        };
         let report = Refused {
-            fault: CheckFault::Day(day),
+            fault: case.fault,
             length: case.length,
         };
         check_eq(format!(rt.alloc(), "{report}")?.as_str(), case.text)?;
@@ -210,5 +218,7 @@ fn compares() -> Result<(), Fail> {
     check(alike(&[1, 2], &[1, 2]))?;
     check(!alike(&[1, 2], &[2, 1]))?;
     check(!alike(&[1, 2], &[1]))?;
-    check(!alike(&[1], &[1, 0]))
+    check(!alike(&[1], &[1, 0]))?;
+    check_eq(judge(&[1, 2], &[1, 2]), Verdict::MayLeave)?;
+    check_eq(judge(&[1, 2], &[1, 3]), Verdict::Stays)
 }

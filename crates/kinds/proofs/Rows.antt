@@ -9,14 +9,16 @@ use native.Mathlib.Nat.{add-zero, div-add-mod'}
 use lib.Dec.{ltb}
 use lib.ListN.{getD, length}
 use Rattle.std.specs.Iters.{counting}
+use Rattle.std.specs.Options.{valueOr}
 use Rattle.std.specs.declared.option.Option.{Option}
 use Rattle.std.specs.declared.option.Option.the-variants.{Some, None}
-use Rattle.std.proofs.shelf.Counted.{getD-map-counting, fill-by-all}
-use Rattle.std.proofs.shelf.Tests.{lt-ltb, le-ltb, and-from, and-left, and-right, cases-order}
+use Rattle.std.proofs.shelf.Counted.{getD-map-counting, length-map-counting, fill-by-all}
+use Rattle.std.proofs.shelf.Tests.{lt-ltb, le-ltb, and-from, and-left, and-right, both-ways, cases-order, cases-lt, cases-bool, eq-eqb, eqb-true, eqb-false}
 use Rattle.kinds.specs.declared.row.HourMode.{HourMode}
 use Rattle.kinds.specs.declared.row.HourMode.the-variants.{Off, Low, Comfort}
 use Rattle.kinds.specs.declared.row.DayRow.{DayRow}
-use Rattle.kinds.specs.Row.{codeOf, modeOf, hourCode, rowByte, rowBytes, hourBits, hoursLegal}
+use Rattle.kinds.proofs.Faults.{fault-none}
+use Rattle.kinds.specs.Row.{codeOf, modeOf, hourCode, rowByte, rowBytes, hourBits, hoursLegal, rowFault}
 
 pub code-le : (m : HourMode) → codeOf m ≤ 2
 code-le Off = omega arith
@@ -62,6 +64,13 @@ one-illegal bs (suc n) k l h =
       | inl e ↦ and-right (hoursLegal bs n) (ltb (hourBits bs n) 3) (le-ltb (hourBits bs n) 3 (omega (arith, ap (hourBits bs) e)))
       | inr (inl b) ↦ and-left (hoursLegal bs n) (ltb (hourBits bs n) 3) (one-illegal bs n k b h)
       | inr (inr b) ↦ absurd (omega arith)
+    ]
+
+pub each-legal : (bs : List ℕ) (n : ℕ) → hoursLegal bs n ≡ true → (k : ℕ) → k < n → hourBits bs k < 3
+each-legal bs n all k h =
+    elim (cases-lt (hourBits bs k) 3) [
+      | inl l ↦ l
+      | inr l ↦ absurd (both-ways (hoursLegal bs n) (one-illegal bs n k h l) all)
     ]
 
 module _ (hs : List HourMode) (q : ℕ) where
@@ -110,3 +119,23 @@ bytes-from bs hs len small read = sym (fill-by-all (rowByte hs) bs 6 0 len byte)
     byte q h =
         let at : (j : ℕ) → j < 4 → hourCode hs (4 * q + j) ≡ getD bs q 0 / 2 ^ (2 * j) % 4 = λ j l. read (4 * q + j) (omega arith) ∙ bits-at bs q j l in
         omega (arith, four-digits (getD bs q 0) (small q), ap (hourCode hs) (add-zero (4 * q)), at 0 (omega arith), at 1 (omega arith), at 2 (omega arith), at 3 (omega arith))
+
+-- the mode of a legal code, which has that code
+modeAt : List ℕ → ℕ → HourMode
+modeAt bs k = valueOr (modeOf (hourBits bs k)) Off
+
+code-back : (n : ℕ) → n < 3 → codeOf (valueOr (modeOf n) Off) ≡ n
+code-back zero h = refl
+code-back (suc zero) h = refl
+code-back (suc (suc zero)) h = refl
+code-back (suc (suc (suc n))) h = absurd (omega arith)
+
+-- bytes that are not refused are those of a row
+pub row-complete : (bs : List ℕ) → ((k : ℕ) → getD bs k 0 < 256) → rowFault bs ≡ None → (row : DayRow) × (rowBytes row ≡ bs)
+unfolding modeAt
+row-complete bs small none =
+    let parts = fault-none 6 bs (hoursLegal bs 24) none in
+    let hours : List HourMode = map (modeAt bs) (counting 0 24) in
+    let held : (k : ℕ) → k < 24 → hourCode hours k ≡ hourBits bs k =
+    λ k h. ap codeOf (getD-map-counting (modeAt bs) 0 24 k k Off h (omega arith)) ∙ code-back (hourBits bs k) (each-legal bs 24 (parts .1) k h) in
+    (record { hours = hours; whole = length-map-counting (modeAt bs) 0 24 }, bytes-from bs hours (parts .0) small held)

@@ -1,11 +1,11 @@
-ghost use mathlib.Core.Path.{_≡_};
 ghost use mathlib.Core.List.{List};
+ghost use mathlib.Core.Path.{_≡_};
 ghost use Prim.Native.Nat.{ℕ, _≤_, _<_};
 ghost use lib.ListN.{length, getD};
-ghost use Rattle.std.specs.declared.option.Option.{Option};
 ghost use Rattle.std.specs.declared.option.Option.the-variants.{Some, None};
-ghost use Rattle.kinds.specs.declared.fault.ContentFault.{ContentFault as Fault};
+ghost use Rattle.std.specs.declared.option.Option.{Option};
 ghost use Rattle.kinds.specs.declared.fault.ContentFault.the-variants.{WrongLength};
+ghost use Rattle.kinds.specs.declared.fault.ContentFault.{ContentFault as Fault};
 ghost use Rattle.kinds.specs.Kind.{Reads, Writes};
 use crate::fault::ContentFault;
 
@@ -18,30 +18,33 @@ pub trait Kind: Copy {
     // the bytes that a content is written as: its meaning
     ghost bytes: { Self → List ℕ };
 
-    // the fault with which a list of bytes is refused, or None where it is accepted
-    ghost refusal: { List ℕ → Option Fault };
+    // the fault with which bytes are refused, or None where they are accepted
+    ghost fault: { List ℕ → Option Fault };
 
-    law wide: { (1 ≤ width) × (width ≤ 64) };
+    law bounded: { (1 ≤ width) × (width ≤ 64) };
 
-    law long: { (x : Self) → length (bytes x) ≡ width };
+    law sized: { (x : Self) → length (bytes x) ≡ width };
 
-    law small: { (x : Self) (k : ℕ) → getD (bytes x) k 0 < 256 };
+    law octets: { (x : Self) (k : ℕ) → getD (bytes x) k 0 < 256 };
 
     // two contents are never written alike
-    law apart: { (x y : Self) → bytes x ≡ bytes y → x ≡ y };
+    law injective: { (x y : Self) → bytes x ≡ bytes y → x ≡ y };
 
-    // what was written is accepted
-    law kept: { (x : Self) → refusal (bytes x) ≡ None };
+    // what is written for a content is accepted
+    law readable: { (x : Self) → fault (bytes x) ≡ None };
 
-    // a wrong length is refused before any byte is looked at
-    law measured: { (bs : List ℕ) → (length bs ≡ width → ⊥) → refusal bs ≡ Some WrongLength };
+    // accepted bytes are those of some content
+    law complete: { (bs : List ℕ) → ((k : ℕ) → getD bs k 0 < 256) → fault bs ≡ None → (x : Self) × (bytes x ≡ bs) };
+
+    // a wrong length is refused as such, whatever the bytes are, and nothing else is
+    law measured: { (bs : List ℕ) → ((length bs ≡ width → ⊥) → fault bs ≡ Some WrongLength) × (fault bs ≡ Some WrongLength → length bs ≡ width → ⊥) };
 
     fn width() -> usize
         ensures { λ r. ⌜ r ≡ width ⌝ };
 
     // The content that the bytes stand for.
     fn read(from: &[u8]) -> Result<Self, ContentFault>
-        ensures { λ r. ⌜ Reads bytes refusal (now (from .entry)) r ⌝ };
+        ensures { λ r. ⌜ Reads bytes fault (now (from .entry)) r ⌝ };
 
     // Writes the content's bytes over the whole slice; one that is not as long as the kind is wide stays as it was.
     fn write(&self, to: &mut [u8]) -> Result<(), ContentFault>

@@ -1,6 +1,5 @@
 // Content kinds: what a block of the house can hold, as a type and as bytes.
 pub mod fault;
-pub mod fault_table;
 pub mod kind;
 pub mod round;
 pub mod row;

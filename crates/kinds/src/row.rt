@@ -10,7 +10,7 @@ pub enum HourMode {
 }
 
 // The 24 hours of one day, midnight first.
-#[derive(Clone, Copy, PartialEq, Eq, Debug)]
+#[derive(Clone, Copy, Debug)]
 pub struct DayRow {
     pub hours: [HourMode; 24],
     ghost whole: { length hours ≡ 24 },

@@ -1,7 +1,7 @@
 ghost use mathlib.Core.Path.{_≡_};
 ghost use Prim.Native.Nat.{ℕ, _<_};
 ghost use lib.ListN.{length};
-ghost use Rattle.kinds.specs.Row.{modeOf, codeOf, hourBits, rowByte, rowBytes, rowRefusal, RowFormat};
+ghost use Rattle.kinds.specs.Row.{modeOf, codeOf, hourBits, rowByte, rowBytes, rowFault, RowFormat};
 use crate::fault::ContentFault;
 use crate::kind::Kind;
 use crate::row::DayRow;
@@ -31,8 +31,6 @@ impl HourMode {
     }
 }
 
-const WIDTH: usize = 6;
-
 // The two bits in which a row's bytes hold an hour.
 fn code_at(from: &[u8], hour: usize) -> u8
     requires { ⌜ length (now from) ≡ 6 ⌝ ∗ ⌜ hour < 24 ⌝ }
@@ -58,14 +56,14 @@ pub impl Kind for DayRow as DayRowKind {
 
     ghost bytes = { rowBytes };
 
-    ghost refusal = { rowRefusal };
+    ghost fault = { rowFault };
 
     fn width() -> usize {
-        WIDTH
+        6 // 24 hours, four to a byte
     }
 
     fn read(from: &[u8]) -> Result<DayRow, ContentFault> {
-        if from.len() != WIDTH {
+        if from.len() != 6 {
             return Err(ContentFault::WrongLength);
         }
         let mut hours = [HourMode::Off; 24];
@@ -79,17 +77,17 @@ pub impl Kind for DayRow as DayRowKind {
     }
 
     fn write(&self, to: &mut [u8]) -> Result<(), ContentFault> {
-        if to.len() != WIDTH {
+        if to.len() != 6 {
             return Err(ContentFault::WrongLength);
         }
-        for i in 0..WIDTH {
+        for i in 0..6 {
             to[i] = self.packed(i);
         }
         Ok(())
     }
 }
 
-// The format in words holds of the bytes: hour k stands in the two bits from position 2 * (k mod 4) on of byte k div 4.
+// The day row's format in words holds of the definitions that reading and writing are proved against.
 pub fn row_format_stands()
     ensures { λ _. ⌜ RowFormat ⌝ }
 {}

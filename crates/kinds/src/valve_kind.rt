@@ -1,20 +1,18 @@
 ghost use mathlib.Core.Path.{_≡_};
-ghost use Rattle.kinds.specs.Valve.{valveBytes, valveRefusal, ValveFormat};
+ghost use Rattle.kinds.specs.Valve.{valveBytes, valveFault, ValveFormat};
 use crate::fault::ContentFault;
 use crate::kind::Kind;
 use crate::valve::Valve;
-
-const WIDTH: usize = 4;
 
 pub impl Kind for Valve as ValveKind {
     ghost width = { 4 };
 
     ghost bytes = { valveBytes };
 
-    ghost refusal = { valveRefusal };
+    ghost fault = { valveFault };
 
     fn width() -> usize {
-        WIDTH
+        4 // two for the setpoint, one for the opening, one for the flags
     }
 
     fn read(from: &[u8]) -> Result<Valve, ContentFault> {
@@ -33,7 +31,7 @@ pub impl Kind for Valve as ValveKind {
     }
 
     fn write(&self, to: &mut [u8]) -> Result<(), ContentFault> {
-        if to.len() != WIDTH {
+        if to.len() != 4 {
             return Err(ContentFault::WrongLength);
         }
         let [low, high] = self.setpoint.to_le_bytes();
@@ -42,7 +40,7 @@ pub impl Kind for Valve as ValveKind {
     }
 }
 
-// The format in words holds of the bytes: the setpoint in the first two, low byte first, then opening and flags.
+// The valve record's format in words holds of the definitions that reading and writing are proved against.
 pub fn valve_format_stands()
     ensures { λ _. ⌜ ValveFormat ⌝ }
 {}

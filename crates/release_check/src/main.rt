@@ -7,27 +7,25 @@ use std::fs;
 use std::io;
 use std::io::Read;
 use week::check::check_week;
+use week::reason::WEEK_BYTES;
 use week::report::Accepted;
 use week::report::AcceptedDisplay;
 use week::report::Refused;
 use week::report::RefusedDisplay;
-use week::report::VerdictDisplay;
-use week::report::WEEK_BYTES;
 use week::verdict::Verdict;
 
 // One byte more than a week has, which is enough to see that a week is too long.
-const MOST: u64 = 43;
+const MOST: u64 = WEEK_BYTES as u64 + 1;
 
 // The bytes of the file that the first argument names, or else of standard input.
 fn input(rt: &LibcRuntime) -> io::Result<Vec<u8>> {
     let mut bytes = Vec::new(rt.alloc());
-    match env::args(rt)?.nth(1) {
+    let _count = match env::args(rt)?.nth(1) {
         Some(path) => fs::open(rt, path.as_str())?
             .take(MOST)
             .read_to_end(&mut bytes)?,
         None => rt.stdin().take(MOST).read_to_end(&mut bytes)?,
-    }
-    ;
+    };
     Ok(bytes)
 }
 
@@ -39,8 +37,8 @@ fn check(rt: &LibcRuntime, bytes: &[u8]) -> io::Result<Verdict> {
         Ok(checked) => {
             rt.println(Accepted {
                 checked: &checked,
-                first: first.len(),
-                second: second.len(),
+                first: &first,
+                second: &second,
             })?;
             Ok(checked.verdict)
         }
@@ -59,7 +57,7 @@ fn main(rt: LibcRuntime) -> Result<(), AnyError> {
         Ok(bytes) => check(&rt, bytes.as_slice())?,
         Err(e) => {
             println!(rt, "The week cannot be read: {e}")?;
-            rt.println(Verdict::Stays)?;
+            rt.println(Verdict::Stays.words())?;
             Verdict::Stays
         }
     };

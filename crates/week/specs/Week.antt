@@ -1,7 +1,7 @@
 -- A week as bytes: seven contents of one kind, one behind the other, Monday first.
 use mathlib.Core.Path.{_≡_}
 use mathlib.Core.Bool.{cond}
-use mathlib.Core.List.{List}
+use mathlib.Core.List.{List, [], _∷_}
 use Prim.Native.Nat.{ℕ, _*_, _<_}
 use lib.Dec.{ltb}
 use lib.ListN.{take, drop}
@@ -25,6 +25,9 @@ dayIndex Friday = 4
 dayIndex Saturday = 5
 dayIndex Sunday = 6
 
+abbrev pub weekDays : List Day
+weekDays = Monday ∷ Tuesday ∷ Wednesday ∷ Thursday ∷ Friday ∷ Saturday ∷ Sunday ∷ []
+
 abbrev pub weekBytes : {K : Type 0} → (K → List ℕ) → Week K → List ℕ
 weekBytes bytes week = joined bytes (week .days)
 
@@ -34,10 +37,10 @@ dayPart width bs k = cond (ltb k 6) (take width (drop (k * width) bs)) (drop (k 
 
 -- day k was read from its part of the bytes, or refused
 abbrev pub LoadsDay : {K : Type 0} → (K → List ℕ) → (List ℕ → Option ContentFault) → List ℕ → ℕ → Result K RefusedDay → Type 0
-LoadsDay bytes refusal bs k (Ok x) = bytes x ≡ bs
-LoadsDay bytes refusal bs k (Err e) = (refusal bs ≡ Some (e .fault)) × (dayIndex (e .day) ≡ k)
+LoadsDay bytes fault bs k (Ok x) = bytes x ≡ bs
+LoadsDay bytes fault bs k (Err e) = (fault bs ≡ Some (e .fault)) × (dayIndex (e .day) ≡ k)
 
 -- accepted bytes are those of the week that was loaded; others name the first day whose part is refused, and its fault
 abbrev pub Loads : {K : Type 0} → ℕ → (K → List ℕ) → (List ℕ → Option ContentFault) → List ℕ → Result (Week K) RefusedDay → Type 0
-Loads width bytes refusal bs (Ok week) = weekBytes bytes week ≡ bs
-Loads width bytes refusal bs (Err e) = (refusal (dayPart width bs (dayIndex (e .day))) ≡ Some (e .fault)) × ((k : ℕ) → k < dayIndex (e .day) → refusal (dayPart width bs k) ≡ None)
+Loads width bytes fault bs (Ok week) = weekBytes bytes week ≡ bs
+Loads width bytes fault bs (Err e) = (fault (dayPart width bs (dayIndex (e .day))) ≡ Some (e .fault)) × ((k : ℕ) → k < dayIndex (e .day) → fault (dayPart width bs k) ≡ None)

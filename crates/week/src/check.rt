@@ -31,7 +31,7 @@ pub fn check_week<K: Kind>(
     first: &mut [u8],
     second: &mut [u8],
 ) -> Result<Checked<K>, CheckFault>
-    ensures { λ r. ⌜ Checks (K·Kind .width) (K·Kind .bytes) (K·Kind .refusal) (now (bytes .entry)) (now (first .entry)) (now (second .entry)) (now (first .exit)) (now (second .exit)) r ⌝ }
+    ensures { λ r. ⌜ Checks (K·Kind .width) (K·Kind .bytes) (K·Kind .fault) (now (bytes .entry)) (now (first .entry)) (now (second .entry)) (now (first .exit)) (now (second .exit)) r ⌝ }
 {
     let week = Week::<K>::load(bytes)?;
     let size = 7 * K::width();

@@ -1,9 +1,31 @@
+ghost use mathlib.Core.Path.{_≡_};
+ghost use Rattle.week.specs.Fault.{contentOf, refusalOf};
 use crate::day::RefusedDay;
 use kinds::fault::ContentFault;
+use refusal::Refusal;
 
-// Why a week was not checked: a day's bytes are refused, or a slice for a save has the wrong length.
+// Why a week was not checked: a day's bytes are refused, or a slice for a save is not as long as the week.
 #[derive(Clone, Copy)]
 pub enum CheckFault {
     Day(RefusedDay),
     Save(ContentFault),
+}
+
+impl CheckFault {
+    // The kind's own fault inside.
+    pub fn content(&self) -> ContentFault
+        ensures { λ r. ⌜ r ≡ contentOf (now (self .entry)) ⌝ }
+    {
+        match self {
+            CheckFault::Day(refused) => refused.fault,
+            CheckFault::Save(fault) => *fault,
+        }
+    }
+
+    // The fault's line in the table of refusals, which is the kind's.
+    pub fn refusal(&self) -> Refusal
+        ensures { λ r. ⌜ r ≡ refusalOf (now (self .entry)) ⌝ }
+    {
+        self.content().refusal()
+    }
 }

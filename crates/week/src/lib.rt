@@ -2,10 +2,10 @@
 pub mod check;
 pub mod compare;
 pub mod day;
-pub mod day_order;
 pub mod drawing;
 pub mod fault;
+pub mod load_save;
+pub mod reason;
 pub mod report;
-pub mod stored;
 pub mod verdict;
 pub mod week;

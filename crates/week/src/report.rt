@@ -2,30 +2,30 @@
 ghost use mathlib.Core.Path.{_≡_};
 ghost use denote.Ref.{now};
 ghost use Rattle.std.specs.declared.option.Option.the-variants.{Some};
-ghost use Rattle.week.specs.Report.{verdictText, lineText, subjectText, contentOf, reasonText, refusedText};
+ghost use Rattle.week.specs.Report.{verdictText, lineText, linesText, acceptedText, subjectText, refusedText};
+ghost use Rattle.week.specs.Week.{weekDays};
 use crate::day::Day;
 use crate::drawing::Drawn;
 use crate::drawing::DrawnDisplay;
 use crate::drawing::hours_in;
 use crate::fault::CheckFault;
+use crate::reason::ReasonDisplay;
+use crate::reason::reason_of;
 use crate::verdict::Checked;
 use crate::verdict::Verdict;
-use kinds::fault::ContentFault;
+use crate::week::Week;
 use kinds::row::DayRow;
 use kinds::row::HourMode;
 use refusal::RefusalDisplay;
 use std::fmt;
 
-// Seven day rows.
-pub const WEEK_BYTES: usize = 42;
-
-pub impl fmt::Display for Verdict as VerdictDisplay {
-    ghost shown = { λ v. Some (verdictText v) };
-
-    fn fmt<W: fmt::Write>(&self, f: &mut fmt::Formatter<W>) -> fmt::Result {
+impl Verdict {
+    pub fn words(self) -> &'static str
+        ensures { λ r. ⌜ now r ≡ verdictText self ⌝ }
+    {
         match self {
-            Verdict::MayLeave => write!(f, "Verdict: the build may leave; both saves are alike."),
-            Verdict::Stays => write!(f, "Verdict: the build stays."),
+            Verdict::MayLeave => "Verdict: the build may leave; both saves are alike.",
+            Verdict::Stays => "Verdict: the build stays.",
         }
     }
 }
@@ -49,30 +49,45 @@ pub impl fmt::Display for DayLine<'_> as DayLineDisplay {
     }
 }
 
-// A week that was loaded and saved twice, with the number of bytes of each save.
+// The seven lines of a week.
 #[derive(Clone, Copy)]
-pub struct Accepted<'a> {
-    pub checked: &'a Checked<DayRow>,
-    pub first: usize,
-    pub second: usize,
-}
+struct DayLines<'a>(&'a Week<DayRow>);
 
-pub impl fmt::Display for Accepted<'_> as AcceptedDisplay {
+impl fmt::Display for DayLines<'_> as DayLinesDisplay {
+    ghost shown = { λ l. Some (linesText weekDays (now (l .0) .days)) };
+
     fn fmt<W: fmt::Write>(&self, f: &mut fmt::Formatter<W>) -> fmt::Result {
-        writeln!(f, "Hours from midnight: '.' off, '-' low, '#' comfort")?;
         for i in 0..7 {
             let line = DayLine {
                 day: Day::at(i),
-                row: &self.checked.week.days[i],
+                row: &self.0.days[i],
             };
             writeln!(f, "{line}")?;
         }
-        let first = self.first;
-        let second = self.second;
-        let verdict = self.checked.verdict;
-        writeln!(f, "First save:  {first} bytes")?;
-        writeln!(f, "Second save: {second} bytes")?;
-        write!(f, "{verdict}")
+        Ok(())
+    }
+}
+
+// A week that was accepted, and its two saves.
+#[derive(Clone, Copy)]
+pub struct Accepted<'a> {
+    pub checked: &'a Checked<DayRow>,
+    pub first: &'a [u8],
+    pub second: &'a [u8],
+}
+
+pub impl fmt::Display for Accepted<'_> as AcceptedDisplay {
+    ghost shown = { λ a. Some (acceptedText (now (a .checked)) (now (a .first)) (now (a .second))) };
+
+    fn fmt<W: fmt::Write>(&self, f: &mut fmt::Formatter<W>) -> fmt::Result {
+        let lines = DayLines(&self.checked.week);
+        let first = self.first.len();
+        let second = self.second.len();
+        let verdict = self.checked.verdict.words();
+        write!(
+            f,
+            "Hours from midnight: '.' off, '-' low, '#' comfort\n{lines}First save:  {first} bytes\nSecond save: {second} bytes\n{verdict}"
+        )
     }
 }
 
@@ -88,13 +103,9 @@ pub impl fmt::Display for Refused as RefusedDisplay {
 
     fn fmt<W: fmt::Write>(&self, f: &mut fmt::Formatter<W>) -> fmt::Result {
         let subject = subject(self.fault);
-        let fault = content(self.fault);
-        let refusal = fault.refusal();
-        let reason = Reason {
-            fault,
-            length: self.length,
-        };
-        let verdict = Verdict::Stays;
+        let refusal = self.fault.refusal();
+        let reason = reason_of(self.fault, self.length);
+        let verdict = Verdict::Stays.words();
         write!(
             f,
             "{subject} is refused: {refusal}\nReason: {reason}\n{verdict}"
@@ -109,40 +120,5 @@ fn subject(fault: CheckFault) -> &'static str
     match fault {
         CheckFault::Day(refused) => refused.day.name(),
         CheckFault::Save(_) => "A save",
-    }
-}
-
-fn content(fault: CheckFault) -> ContentFault
-    ensures { λ r. ⌜ r ≡ contentOf fault ⌝ }
-{
-    match fault {
-        CheckFault::Day(refused) => refused.fault,
-        CheckFault::Save(fault) => fault,
-    }
-}
-
-// A fault in a heating engineer's words, for a week of day rows that has so many bytes.
-#[derive(Clone, Copy)]
-struct Reason {
-    fault: ContentFault,
-    length: usize,
-}
-
-impl fmt::Display for Reason as ReasonDisplay {
-    ghost shown = { λ r. Some (reasonText (r .fault) (r .length)) };
-
-    fn fmt<W: fmt::Write>(&self, f: &mut fmt::Formatter<W>) -> fmt::Result {
-        let length = self.length;
-        match self.fault {
-            ContentFault::BadContent => write!(
-                f,
-                "an hour of the day is 3, which is neither off, low nor comfort"
-            ),
-            ContentFault::WrongLength if length < WEEK_BYTES => write!(
-                f,
-                "the week ends after {length} of 42 bytes"
-            ),
-            ContentFault::WrongLength => write!(f, "the week goes on after 42 bytes"),
-        }
     }
 }

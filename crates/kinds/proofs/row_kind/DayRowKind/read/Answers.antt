@@ -1,5 +1,4 @@
 use mathlib.Core.Path.{_≡_, ap, _∙_, sym}
-use mathlib.Core.Bool.{false}
 use Prim.Native.Nat.{ℕ}
 use native.Mathlib.Omega.{arith}
 use borrow.Author.Count.{below-more}
@@ -8,6 +7,7 @@ use Rattle.std.proofs.shelf.Lists.{getD-set-same, getD-set-other}
 use Rattle.std.specs.declared.option.Option.the-variants.{Some, None}
 use Rattle.kinds.specs.declared.row.HourMode.the-variants.{Off}
 use Rattle.kinds.specs.Row.{codeOf, modeOf, hourBits, hoursLegal}
+use Rattle.kinds.proofs.Faults.{fault-bad}
 use Rattle.kinds.proofs.Rows.{no-mode, code-of-mode, one-illegal, bytes-from}
 use Rattle.kinds.proofs.row_kind.DayRowKind.read.Needs as need
 
@@ -16,8 +16,7 @@ returns-in-rest c =
     let bs = c .args .from .now in
     let i = c .loop-i .i in
     let none : modeOf (hourBits bs i) ≡ None = sym (ap modeOf (c .code-at .ensures)) ∙ sym (c .from-code .ensures) ∙ c .in-rest .is in
-    let bad : hoursLegal bs 24 ≡ false = one-illegal bs 24 i (omega arith) (no-mode (hourBits bs i) none) in
-    rw (c .if-from-ne-WIDTH .left, bad)
+    fault-bad 6 bs (hoursLegal bs 24) (omega arith) (one-illegal bs 24 i (omega arith) (no-mode (hourBits bs i) none))
 
 pub loop-i-again : need.loop-i-again
 loop-i-again c =

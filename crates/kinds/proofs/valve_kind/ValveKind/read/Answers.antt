@@ -1,12 +1,11 @@
-use mathlib.Core.Path.{_≡_, refl}
-use mathlib.Core.List.{[], _∷_}
+use mathlib.Core.Path.{_≡_}
 use Prim.Native.Nat.{ℕ, _+_, _*_, _/_, _%_, _<_, _^_}
 use native.Mathlib.Omega.{arith}
 use lib.ListN.{getD, length}
 use mir.Syntax.{w16}
 use mir.Val.{ofZ, toZ}
 use Rattle.std.proofs.shelf.Signed.{ofZ-toZ}
-use Rattle.std.proofs.shelf.Counted.{fill-by-all}
+use Rattle.kinds.proofs.Valves.{four-bytes}
 use borrow.Author.Needs.{needs}
 use Rattle.kinds.proofs.valve_kind.ValveKind.read.Needs as need
 
@@ -19,5 +18,5 @@ returns c =
     let e : ofZ w16 (toZ w16 (ofZ w16 z)) ≡ n = simp (c .from-le-bytes-setpoint .ensures, ofZ-toZ) in
     let low : ofZ w16 (toZ w16 (ofZ w16 z)) % 256 ≡ getD bs 0 0 = omega (arith, c .typed .from 0) in
     let high : ofZ w16 (toZ w16 (ofZ w16 z)) / 256 ≡ getD bs 1 0 = omega (arith, c .typed .from 0) in
-    let spelt : bs ≡ getD bs 0 0 ∷ getD bs 1 0 ∷ getD bs 2 0 ∷ getD bs 3 0 ∷ [] = fill-by-all (λ k. getD bs k 0) bs 4 0 (search needs) (λ k h. refl) in
+    let spelt = four-bytes bs (search needs) in
     cc

@@ -19,7 +19,7 @@ returns-in-Break-days g c =
     let told = c .in-Break-days .ensures tt in
     let here : dayIndex (c .in-Break-days .field-0 .0 .day) ≡ c .loop-i .i = told .1 in
     let part : ℕ → _ = dayPart (g .K·Kind .width) (c .args .bytes .now) in
-    rw (p .1, p .2) (ap (λ k. g .K·Kind .refusal (part k)) here ∙ told .0, λ k h. c .loop-i .inv .2 k (omega arith))
+    rw (p .1, p .2) (ap (λ k. g .K·Kind .fault (part k)) here ∙ told .0, λ k h. c .loop-i .inv .2 k (omega arith))
 
 pub loop-i-again : need.loop-i-again
 loop-i-again g c =
@@ -31,7 +31,7 @@ loop-i-again g c =
       search needs,
       joined-set (g .K·Kind .bytes) (c .loop-i .days) i x in-week ∙ ap (λ bs. bs ++ g .K·Kind .bytes x) (c .loop-i .inv .1)
           ∙ ap (λ part. upTo (g .K·Kind .width) bs i ++ part) written ∙ upTo-more (g .K·Kind .width) bs i (omega arith),
-      below-more _ _ (c .loop-i .inv .2) (sym (ap (g .K·Kind .refusal) written) ∙ g .K·Kind·met .kept x),
+      below-more _ _ (c .loop-i .inv .2) (sym (ap (g .K·Kind .fault) written) ∙ g .K·Kind·met .readable x),
     )
 
 pub returns : need.returns

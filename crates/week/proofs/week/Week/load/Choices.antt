@@ -11,4 +11,4 @@ use Rattle.week.proofs.week.Week.load.Given as given
 abbrev pub Inv-loop-i : given.InvT-loop-i
 Inv-loop-i g l =
     (length (l .days) ≡ 7) × (joined (g .K·Kind .bytes) (take (l .i) (l .days)) ≡ upTo (g .K·Kind .width) (l .bytes) (l .i))
-    × ((k : ℕ) → k < l .i → g .K·Kind .refusal (dayPart (g .K·Kind .width) (l .bytes) k) ≡ None)
+    × ((k : ℕ) → k < l .i → g .K·Kind .fault (dayPart (g .K·Kind .width) (l .bytes) k) ≡ None)

@@ -26,7 +26,7 @@ loop-i-again g c =
     let m = days-fit i w (omega arith) in
     let told = c .in-Continue-write .ensures tt in
     saved-more (g .K·Kind .bytes) xs (c .loop-i .to) (c .write .last .to) w i (i * w + w - i * w) d (omega (arith, c .args .self .now .whole)) (omega arith)
-    (g .K·Kind·met .long (getD xs i d) ∙ sym (c .width-width .ensures)) (told .1) (c .loop-i .inv)
+    (g .K·Kind·met .sized (getD xs i d) ∙ sym (c .width-width .ensures)) (told .1) (c .loop-i .inv)
 
 pub returns : need.returns
 returns g c =

@@ -6,7 +6,7 @@ use lib.Dec.{ltb}
 use lib.ListN.{length, take, drop}
 use Rattle.std.proofs.shelf.Tests.{lt-ltb, le-ltb}
 use Rattle.week.proofs.Parts.{rest-is, front-is}
-use Rattle.week.proofs.stored.part.Needs as need
+use Rattle.week.proofs.load_save.part.Needs as need
 
 pub returns-then-day-lt6 : need.returns-then-day-lt6
 returns-then-day-lt6 c =

@@ -24,7 +24,7 @@ fn part(bytes: &[u8], width: usize, day: usize) -> &[u8]
 
 fn load_day<K: Kind>(bytes: &[u8], at: usize) -> Result<K, RefusedDay>
     requires { ⌜ at < 7 ⌝ }
-    ensures { λ r. ⌜ LoadsDay (K·Kind .bytes) (K·Kind .refusal) (dayPart (K·Kind .width) (now (bytes .entry)) at) at r ⌝ }
+    ensures { λ r. ⌜ LoadsDay (K·Kind .bytes) (K·Kind .fault) (dayPart (K·Kind .width) (now (bytes .entry)) at) at r ⌝ }
 {
     match K::read(part(bytes, K::width(), at)) {
         Ok(content) => Ok(content),
@@ -38,7 +38,7 @@ fn load_day<K: Kind>(bytes: &[u8], at: usize) -> Result<K, RefusedDay>
 impl<K: Kind> Week<K> {
     // The week that the bytes stand for, or the first day that is refused.
     pub fn load(bytes: &[u8]) -> Result<Week<K>, RefusedDay>
-        ensures { λ r. ⌜ Loads (K·Kind .width) (K·Kind .bytes) (K·Kind .refusal) (now (bytes .entry)) r ⌝ }
+        ensures { λ r. ⌜ Loads (K·Kind .width) (K·Kind .bytes) (K·Kind .fault) (now (bytes .entry)) r ⌝ }
     {
         let monday = load_day(bytes, 0)?;
         let mut days = [monday; 7];
