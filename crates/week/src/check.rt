@@ -1,29 +1,13 @@
 ghost use mathlib.Core.Path.{_≡_};
-ghost use Rattle.week.specs.declared.fault.CheckFault.the-variants.{Day as DayFault, Save as SaveFault};
 ghost use Rattle.week.specs.Release.{Checks};
 use crate::compare::judge;
-use crate::day::RefusedDay;
 use crate::fault::CheckFault;
+use crate::fault::CheckFaultFromContent;
+use crate::fault::CheckFaultFromDay;
 use crate::verdict::Checked;
 use crate::week::Week;
 use kinds::fault::ContentFault;
 use kinds::kind::Kind;
-
-pub impl From<RefusedDay> for CheckFault as CheckFaultFromDay {
-    ghost converts = { λ e r. r ≡ DayFault e };
-
-    fn from(e: RefusedDay) -> CheckFault {
-        CheckFault::Day(e)
-    }
-}
-
-pub impl From<ContentFault> for CheckFault as CheckFaultFromContent {
-    ghost converts = { λ e r. r ≡ SaveFault e };
-
-    fn from(e: ContentFault) -> CheckFault {
-        CheckFault::Save(e)
-    }
-}
 
 // The release check: loads a week, saves it twice, and compares the saves. A refused week saves nothing.
 pub fn check_week<K: Kind>(

@@ -1,4 +1,5 @@
 ghost use mathlib.Core.Path.{_≡_};
+ghost use Rattle.week.specs.declared.fault.CheckFault.the-variants.{Day as DayFault, Save as SaveFault};
 ghost use Rattle.week.specs.Fault.{contentOf, refusalOf};
 use crate::day::RefusedDay;
 use kinds::fault::ContentFault;
@@ -9,6 +10,22 @@ use refusal::Refusal;
 pub enum CheckFault {
     Day(RefusedDay),
     Save(ContentFault),
+}
+
+pub impl From<RefusedDay> for CheckFault as CheckFaultFromDay {
+    ghost converts = { λ e r. r ≡ DayFault e };
+
+    fn from(e: RefusedDay) -> CheckFault {
+        CheckFault::Day(e)
+    }
+}
+
+pub impl From<ContentFault> for CheckFault as CheckFaultFromContent {
+    ghost converts = { λ e r. r ≡ SaveFault e };
+
+    fn from(e: ContentFault) -> CheckFault {
+        CheckFault::Save(e)
+    }
 }
 
 impl CheckFault {
