@@ -27,7 +27,7 @@ Refuses width bytes fault bs first second (Day e) = Loads width bytes fault bs (
 Refuses {K} width bytes fault bs first second (Save e) =
     ((week : Week K) × (weekBytes bytes week ≡ bs)) × (length first ≡ 7 * width → length second ≡ 7 * width → ⊥) × (e ≡ WrongLength)
 
--- an accepted week is saved twice as the bytes it was loaded from, and the build may leave; a fault saves nothing
+-- an accepted week is saved twice as the bytes it was loaded from, and the build may leave; a refusal saves nothing
 abbrev pub Checks : {K : Type 0} → ℕ → (K → List ℕ) → (List ℕ → Option ContentFault) → List ℕ → List ℕ → List ℕ → List ℕ → List ℕ → Result (Checked K) CheckFault → Type 0
 Checks width bytes fault bs first second first′ second′ (Ok r) = (weekBytes bytes (r .week) ≡ bs) × (first′ ≡ bs) × (second′ ≡ bs) × (r .verdict ≡ MayLeave)
 Checks width bytes fault bs first second first′ second′ (Err e) = (first′ ≡ first) × (second′ ≡ second) × Refuses width bytes fault bs first second e

@@ -1,4 +1,4 @@
--- The words of the report: a day's line, a refused week, the verdict.
+-- The words of the report: a day's line, an accepted week, a refused one, the verdict.
 use mathlib.Core.List.{List, [], _∷_, map, _++_}
 use Prim.Native.Nat.{ℕ}
 use lib.Chars.{codes}
