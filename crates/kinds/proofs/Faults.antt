@@ -1,15 +1,13 @@
 -- What the fault of some bytes tells of them, and what it is.
-use mathlib.Core.Path.{_≡_, refl}
-use mathlib.Core.Bool.{Bool, true, false, cond}
+use mathlib.Core.Path.{_≡_}
+use mathlib.Core.Bool.{Bool, true, false}
 use mathlib.Core.List.{List}
 use Prim.Native.Nat.{ℕ}
 use native.Mathlib.Omega.{arith}
-use lib.Dec.{eqb}
 use lib.ListN.{length}
 use Rattle.std.specs.declared.option.Option.the-variants.{Some, None}
-use Rattle.std.proofs.shelf.Tests.{eq-eqb}
 use Rattle.std.proofs.shelf.Ways.{tells}
-use Rattle.kinds.specs.declared.fault.ContentFault.the-variants.{WrongLength, BadContent}
+use Rattle.kinds.specs.declared.fault.ContentFault.the-variants.{BadContent}
 use Rattle.kinds.specs.Kind.{faultAfter}
 
 pub fault-none : (n : ℕ) (bs : List ℕ) (legal : Bool) → faultAfter n bs legal ≡ None → (length bs ≡ n) × (legal ≡ true)

@@ -1,8 +1,8 @@
 -- Hours and bytes of a day row.
 use mathlib.Core.Path.{_≡_, refl, ap, _∙_, sym}
-use mathlib.Core.Bool.{Bool, true, false, _&&_}
+use mathlib.Core.Bool.{true, false}
 use mathlib.Core.List.{List, map}
-use mathlib.Core.Logic.{_⊎_, inl, inr}
+use mathlib.Core.Logic.{inl, inr}
 use Prim.Native.Nat.{ℕ, zero, suc, _+_, _*_, _/_, _%_, _^_, _<_, _≤_}
 use native.Mathlib.Omega.{arith}
 use native.Mathlib.Nat.{add-zero, div-add-mod'}
@@ -10,10 +10,9 @@ use lib.Dec.{ltb}
 use lib.ListN.{getD, length}
 use Rattle.std.specs.Iters.{counting}
 use Rattle.std.specs.Options.{valueOr}
-use Rattle.std.specs.declared.option.Option.{Option}
 use Rattle.std.specs.declared.option.Option.the-variants.{Some, None}
 use Rattle.std.proofs.shelf.Counted.{getD-map-counting, length-map-counting, fill-by-all}
-use Rattle.std.proofs.shelf.Tests.{lt-ltb, le-ltb, and-from, and-left, and-right, both-ways, cases-order, cases-lt, cases-bool, eq-eqb, eqb-true, eqb-false}
+use Rattle.std.proofs.shelf.Tests.{lt-ltb, le-ltb, and-from, and-left, and-right, both-ways, cases-order, cases-lt}
 use Rattle.kinds.specs.declared.row.HourMode.{HourMode}
 use Rattle.kinds.specs.declared.row.HourMode.the-variants.{Off, Low, Comfort}
 use Rattle.kinds.specs.declared.row.DayRow.{DayRow}
@@ -83,9 +82,6 @@ module _ (hs : List HourMode) (q : ℕ) where
   in-byte (suc (suc zero)) h = omega (arith, at 1, at 2, at 3, code-le (getD hs (4 * q) Off))
   in-byte (suc (suc (suc zero))) h = omega (arith, at 1, at 2, at 3, code-le (getD hs (4 * q) Off))
   in-byte (suc (suc (suc (suc j)))) h = absurd (omega arith)
-
-  pub byte-small : rowByte hs q < 256
-  byte-small = omega (arith, at 1, at 2, at 3, code-le (getD hs (4 * q) Off))
 
 -- the bytes of a row hold its hours
 pub hour-bits : (r : DayRow) (k : ℕ) → k < 24 → hourBits (rowBytes r) k ≡ hourCode (r .hours) k

@@ -1,20 +1,19 @@
 -- Fields and bytes of a valve record.
-use mathlib.Core.Path.{_≡_, refl, ap, sym, _∙_}
+use mathlib.Core.Path.{_≡_, refl, sym, _∙_}
 use mathlib.Core.Bool.{true}
 use mathlib.Core.List.{List, [], _∷_}
-use Prim.Native.Nat.{ℕ, _+_, _*_, _/_, _%_, _<_, _≤_, _^_}
+use Prim.Native.Nat.{ℕ, _+_, _*_, _<_}
 use native.Mathlib.Omega.{arith}
 use lib.Dec.{leb}
-use lib.IntN.{ℤ, pos}
+use lib.IntN.{pos}
 use lib.ListN.{getD, length}
-use lib.Signed.{leZ, _≤ℤ_}
+use lib.Signed.{leZ}
 use mir.Syntax.{w16}
 use mir.Val.{ofZ, toZ}
 use Rattle.std.specs.declared.option.Option.the-variants.{None}
 use Rattle.std.proofs.shelf.Counted.{fill-by-all}
 use Rattle.std.proofs.shelf.Signed.{ofZ-toZ, ints}
 use Rattle.std.proofs.shelf.Tests.{and-parts, leb-true}
-use Rattle.std.proofs.shelf.Ways.{tells}
 use Rattle.kinds.specs.declared.valve.Valve.{Valve}
 use Rattle.kinds.proofs.Faults.{fault-none}
 use Rattle.kinds.specs.Valve.{lowByte, highByte, valveBytes, setpointOf, setpointLegal, fieldsLegal, valveFault}

@@ -1,4 +1,3 @@
-ghost use mathlib.Core.Path.{_≡_};
 ghost use Rattle.kinds.specs.Kind.{KindLaw, RoundTrips};
 use crate::fault::ContentFault;
 use crate::kind::Kind;

@@ -1,4 +1,3 @@
-ghost use mathlib.Core.Path.{_≡_};
 ghost use Rattle.kinds.specs.Valve.{valveBytes, valveFault, ValveFormat};
 use crate::fault::ContentFault;
 use crate::kind::Kind;

@@ -1,4 +1,3 @@
-ghost use mathlib.Core.Path.{_≡_};
 ghost use Rattle.week.specs.Release.{Checks};
 use crate::compare::judge;
 use crate::fault::CheckFault;

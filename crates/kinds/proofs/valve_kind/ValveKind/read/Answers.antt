@@ -1,7 +1,7 @@
 use mathlib.Core.Path.{_≡_}
 use Prim.Native.Nat.{ℕ, _+_, _*_, _/_, _%_, _<_, _^_}
 use native.Mathlib.Omega.{arith}
-use lib.ListN.{getD, length}
+use lib.ListN.{getD}
 use mir.Syntax.{w16}
 use mir.Val.{ofZ, toZ}
 use Rattle.std.proofs.shelf.Signed.{ofZ-toZ}

@@ -1,9 +1,6 @@
 use mathlib.Core.Path.{_≡_}
-use Prim.Native.Nat.{_/_, _%_}
 use native.Mathlib.Omega.{arith}
 use Rattle.std.proofs.shelf.Signed.{ints}
-use mir.Syntax.{w16}
-use mir.Val.{ofZ}
 use denote.Struct.Record.{values-one}
 use Rattle.kinds.specs.contracts.valve.Valve.{struct, the-propositions}
 use Rattle.kinds.specs.Valve.{lowByte, highByte}

@@ -8,7 +8,6 @@ use borrow.Author.Needs.{needs}
 use Rattle.std.specs.shelf.Lists.{joined}
 use Rattle.std.proofs.shelf.Lists.{take-all}
 use Rattle.std.proofs.shelf.Results.{err-from-errBy}
-use Rattle.std.specs.declared.option.Option.the-variants.{None, Some}
 use Rattle.week.specs.Week.{dayIndex, dayPart}
 use Rattle.week.proofs.Parts.{upTo, upTo-more, joined-set}
 use Rattle.week.proofs.week.Week.load.Needs as need

@@ -1,6 +1,6 @@
 use mathlib.Core.Path.{_≡_}
-use Prim.Native.Nat.{ℕ, _*_}
-use lib.ListN.{length, take}
+use Prim.Native.Nat.{_*_}
+use lib.ListN.{take}
 use Rattle.std.specs.shelf.Lists.{joined}
 use Rattle.week.proofs.week.Week.save.Given as given
 
