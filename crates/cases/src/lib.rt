@@ -1,4 +1,6 @@
 // Cases for the content kinds, the week, the networks and the crossing, as tables: each test is proved safe and then run.
+#![tactic(auto)]
+
 #[cfg(test)]
 mod crossings;
 #[cfg(test)]

@@ -1,4 +1,6 @@
 // Messages between boards, and the networks that carry them.
+#![tactic(auto)]
+
 pub mod fault;
 pub mod lanes;
 pub mod laws;

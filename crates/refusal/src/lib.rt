@@ -1,4 +1,6 @@
 // What every refusal names: the layer that refused, its number in the table of refusals, and a place.
+#![tactic(auto)]
+
 ghost use Rattle.std.specs.Prelude.{Some};
 ghost use Rattle.refusal.specs.Text.{layer_text, place_text, refusal_text};
 

@@ -1,4 +1,6 @@
 // The release check on one week's schedule: loads it, saves it twice, compares, and says whether the build may leave.
+#![tactic(auto)]
+
 use anyhow::anyhow;
 use kinds::row::DayRow;
 use std::io::Read;

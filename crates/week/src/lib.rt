@@ -1,4 +1,6 @@
 // A week's schedule: seven contents of one kind, Monday first, and the release check on it.
+#![tactic(auto)]
+
 pub mod check;
 pub mod compare;
 pub mod day;

@@ -11,7 +11,7 @@ pub put-requires : goal.put-requires
 put-requires g c =
     let ms = g.N.Network.waiting c.loop-i.network in
     let fit = fits c.args.order g.N.Network.ready (g.N.Network.waiting c.args.network.now) c.requires.0 ms c.loop-i.i c.loop-i.days c.loop-i.taken
-    (next_place c.args.order g.N.Network.ready ms) c.take-next-message.result c.loop-i.invariant c.take-next-message.ensures.value in
+    (next_place c.args.order g.N.Network.ready ms) c.take_next-message.result c.loop-i.invariant c.take_next-message.ensures.value in
     (search rules, fit)
 
 pub loop-i-preserved : goal.loop-i-preserved
@@ -20,11 +20,11 @@ loop-i-preserved g c =
     let ready = g.N.Network.ready in
     let all = g.N.Network.waiting c.args.network.now in
     let ms = g.N.Network.waiting c.loop-i.network in
-    let m = c.take-next-message.result in
+    let m = c.take_next-message.result in
     let i = c.loop-i.i in
-    let next = steps order ready all c.requires.0 ms i c.loop-i.days c.loop-i.taken m c.loop-i.invariant (omega arith) c.take-next-message.ensures.value in
+    let next = steps order ready all c.requires.0 ms i c.loop-i.days c.loop-i.taken m c.loop-i.invariant (omega arith) c.take_next-message.ensures.value in
     let put = subst (λ days. Underway order ready all (without ms (next_place order ready ms)) (i + 1) days (set c.loop-i.taken i m.block)) (sym c.put.ensures) next in
-    subst (λ ns. Underway order ready all ns (i + 1) c.put.new.days (set c.loop-i.taken i m.block)) (sym c.take-next-message.ensures.after) put
+    subst (λ ns. Underway order ready all ns (i + 1) c.put.new.days (set c.loop-i.taken i m.block)) (sym c.take_next-message.ensures.after) put
 
 pub returns : goal.returns
 returns g c =

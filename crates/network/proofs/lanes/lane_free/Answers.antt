@@ -4,14 +4,14 @@ use Rattle.network.specs.Lanes.{lane_free}
 use Rattle.network.proofs.Order.{free_step}
 use Rattle.network.proofs.lanes.lane_free.Goals as goal
 
-pub returns-then-shares-lane : goal.returns-then-shares-lane
-returns-then-shares-lane g c =
-    let s = free_step c.args.message.now c.args.earlier.now c.loop-other.other-index c.other-item.result true (omega arith) c.other-item.is c.if-shares-lane.ensures in
+pub returns-then-shares_lane : goal.returns-then-shares_lane
+returns-then-shares_lane g c =
+    let s = free_step c.args.message.now c.args.earlier.now c.loop-other.other-index c.other-item.result true (omega arith) c.other-item.is c.if-shares_lane.ensures in
     sym (sym c.loop-other.invariant ∙ s)
 
 pub loop-other-preserved : goal.loop-other-preserved
 loop-other-preserved g c =
-    let s = free_step c.args.message.now c.args.earlier.now c.loop-other.other-index c.other-item.result false (omega arith) c.other-item.is c.if-shares-lane.ensures in
+    let s = free_step c.args.message.now c.args.earlier.now c.loop-other.other-index c.other-item.result false (omega arith) c.other-item.is c.if-shares_lane.ensures in
     sym s ∙ c.loop-other.invariant
 
 pub returns : goal.returns

@@ -9,7 +9,7 @@ use Rattle.crossing.proofs.report.DaysDisplay.fmt.Goals as goal
 pub loop-day-preserved : goal.loop-day-preserved
 loop-day-preserved g c plain =
     let p = c.loop-day.invariant plain in
-    let w = c.write.ensures.shows p.plain (ap is_ok c.in-ok-write.was) in
+    let w = c.write.ensures.writes p.plain (ap is_ok c.in_ok-write.was) in
     let days = c.args.self.now.0.now in
     let i = c.loop-day.day-index in
     let here = ap (λ name. codes " " ++ name) (c.name-name.ensures ∙ ap day_text c.at.ensures.item) in

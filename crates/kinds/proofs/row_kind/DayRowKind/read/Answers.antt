@@ -6,18 +6,18 @@ use Rattle.kinds.specs.Faults.{fault_bad}
 use Rattle.kinds.specs.Rows.{no_mode, code_of_mode, one_illegal, bytes_from}
 use Rattle.kinds.proofs.row_kind.DayRowKind.read.Goals as goal
 
-pub returns-in-default : goal.returns-in-default
-returns-in-default c =
+pub returns-in_default : goal.returns-in_default
+returns-in_default c =
     let bs = c.args.from.now in
     let i = c.loop-i.i in
-    let none : mode_of (hour_bits bs i) ≡ None = sym (ap mode_of c.code-at.ensures) ∙ sym c.from-code.ensures ∙ c.in-default.is in
+    let none : mode_of (hour_bits bs i) ≡ None = sym (ap mode_of c.code_at.ensures) ∙ sym c.from_code.ensures ∙ c.in_default.is in
     fault_bad 6 bs (hours_legal bs 24) (omega arith) (one_illegal bs 24 i (omega arith) (no_mode (hour_bits bs i) none))
 
 pub loop-i-preserved : goal.loop-i-preserved
 loop-i-preserved c =
     let bs = c.args.from.now in
     let i = c.loop-i.i in
-    let some : mode_of (hour_bits bs i) ≡ Some c.in-Some.mode = sym (ap mode_of c.code-at.ensures) ∙ sym c.from-code.ensures ∙ c.in-Some.is in (
+    let some : mode_of (hour_bits bs i) ≡ Some c.in-Some.mode = sym (ap mode_of c.code_at.ensures) ∙ sym c.from_code.ensures ∙ c.in-Some.is in (
       search rules,
       below_more _ _
           (λ k h. ap code_of (get_or-set_other c.loop-i.hours i k _ Off (omega arith)) ∙ c.loop-i.invariant.1 k h)
@@ -25,4 +25,4 @@ loop-i-preserved c =
     )
 
 pub returns : goal.returns
-returns c = bytes_from c.args.from.now c.loop-i.hours (omega arith) (λ i. omega (arith, c.type-inv.from i)) (λ k h. c.loop-i.invariant.1 k (omega arith))
+returns c = bytes_from c.args.from.now c.loop-i.hours (omega arith) (λ i. omega (arith, c.type_inv.from i)) (λ k h. c.loop-i.invariant.1 k (omega arith))

@@ -9,7 +9,7 @@ returns-in-Some g c =
     let found = c.in-Some.ensures.lookup in
     let m = c.in-Some.message.now in
     let earlier : lane_free m c.before-in-Some.result.now ≡ lane_free m (take c.args.place c.args.waiting.now) = ap (lane_free m) c.before-in-Some.ensures in
-    c.lane-free.ensures ∙ earlier ∙ sym (first_at c.in-Some.message.now c.args.waiting.now c.args.place (omega arith) found.1)
+    c.lane_free.ensures ∙ earlier ∙ sym (first_at c.in-Some.message.now c.args.waiting.now c.args.place (omega arith) found.1)
 
 pub returns-in-None : goal.returns-in-None
 returns-in-None g c =

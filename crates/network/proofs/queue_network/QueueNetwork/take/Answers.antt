@@ -9,7 +9,7 @@ returns g c =
     let ms = vec_items c.args.self.now.items in
     let k = c.args.place in
     let m = c.remove.result in
-    let here = is_there ready ms k c.in-ok-is-ready.field-0 c.in-ok-is-ready.ensures in
+    let here = is_there ready ms k c.in_ok-is_ready.field-0 c.in_ok-is_ready.ensures in
     let r = here.1 ∙ c.if-not-branch.false in
     let n = slice_get_read ms (length ms) k m refl here.0 c.remove.ensures.value in
     record { value = sym (taken ready ms k m here.0 r n); after = c.remove.ensures.after ∙ sym (taken_off ready ms k m here.0 r n); fixed = search rules }

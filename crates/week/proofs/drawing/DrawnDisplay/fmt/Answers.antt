@@ -19,7 +19,7 @@ loop-i-preserved g c plain =
     let hours = c.args.self.now.0.now.hours in
     let i = c.loop-i.i in
     let p = c.loop-i.invariant plain in
-    let w = c.write.ensures.shows p.plain (ap is_ok c.in-ok-write.was) in
+    let w = c.write.ensures.writes p.plain (ap is_ok c.in_ok-write.was) in
     let one = ap encode c.sign-drawn.ensures ∙ one-sign (get_or hours i Off) in
     let more = map_more sign_of hours i Off (omega (arith, c.args.self.now.0.now.whole)) in
     has_written_of_eq g.W.Write.write_str_gives c.args.f.now _ _ c.write.new.self (ap (λ bs. map sign_of (take i hours) ++ bs) one ∙ sym more)

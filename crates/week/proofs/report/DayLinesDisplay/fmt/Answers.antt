@@ -10,7 +10,7 @@ use Rattle.week.proofs.report.DayLinesDisplay.fmt.Goals as goal
 pub loop-i-preserved : goal.loop-i-preserved
 loop-i-preserved g c plain =
     let p = c.loop-i.invariant plain in
-    let w = c.writeln.ensures.writes p.plain (ap is_ok c.in-ok-writeln.was) in
+    let w = c.writeln.ensures.writes p.plain (ap is_ok c.in_ok-writeln.was) in
     let days = c.args.self.now.0.now.days in
     let i = c.loop-i.i in
     let row = get_or days i c.index-self-i.result in

@@ -10,8 +10,8 @@ module _ (i width : ℕ) (h : i < 7) where
   days-fit : i * width ≤ 6 * width
   days-fit = mul-le i width 6 width (omega arith) (omega arith)
 
-pub slice-bounds-write-end : goal.slice-bounds-write-end
-slice-bounds-write-end g c = let m = days-fit c.loop-i.i c.width-width.result (omega arith) in search rules
+pub slice_bounds-write-end : goal.slice_bounds-write-end
+slice_bounds-write-end g c = let m = days-fit c.loop-i.i c.width-width.result (omega arith) in search rules
 
 pub loop-i-preserved : goal.loop-i-preserved
 loop-i-preserved g c =
@@ -20,7 +20,7 @@ loop-i-preserved g c =
     let d = c.index-self-i.result in
     let xs = c.args.self.now.days in
     let m = days-fit i w (omega arith) in
-    let told = c.in-ok-write.ensures in
+    let told = c.in_ok-write.ensures in
     saved_more g.K.Kind.bytes xs c.loop-i.to c.write.new.to w i (i * w + w - i * w) d (omega (arith, c.args.self.now.whole)) (omega arith)
     (g.met.K.Kind.sized (get_or xs i d) ∙ sym c.width-width.ensures) told.1 c.loop-i.invariant
 
