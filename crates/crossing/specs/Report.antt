@@ -6,7 +6,7 @@ use Rattle.network.specs.Fault.{refusal_of}
 use Rattle.week.specs.declared.day.Day.TheVariants.{Sunday}
 use Rattle.week.specs.declared.verdict.Verdict.{Verdict}
 use Rattle.week.specs.declared.week.Week.{Week}
-use Rattle.week.specs.Report.{day_text, accepted_text, verdict_text}
+use Rattle.week.specs.Report.{day_text, saved_text, verdict_text}
 use Rattle.week.specs.Week.{week_days}
 use Rattle.kinds.specs.declared.row.DayRow.{DayRow}
 use Rattle.crossing.specs.declared.crossing.Crossing.{Crossing}
@@ -46,6 +46,6 @@ module _ {K : Type 0} where
 -- a week and its saves, what was seen of its crossings, and the verdict
 abbrev pub report_text : Week DayRow → List ℕ → List ℕ → Crossings DayRow → Verdict → List ℕ
 report_text week first second c saves =
-    accepted_text week first second
+    saved_text week first second
     ++ (codes "\n" ++ (crossing_text (codes "lanes") OldestFirst c.straight ++ (codes "\n" ++ (crossing_text (codes "lanes") NewestFirst c.mixed
     ++ (codes "\n" ++ (crossing_text (codes "open bus") NewestFirst c.turned ++ (codes "\n" ++ verdict_text (verdict_after saves c))))))))

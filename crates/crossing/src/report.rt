@@ -6,7 +6,7 @@ use kinds::row::DayRow;
 use network::fault::NetworkFault;
 use std::fmt;
 use week::day::Day;
-use week::report::Accepted;
+use week::report::Saved;
 use week::verdict::Verdict;
 use week::week::Week;
 
@@ -64,7 +64,7 @@ impl fmt::Display for Days<'_> {
 
     fn fmt<W: fmt::Write>(&self, f: &mut fmt::Formatter<W>) -> fmt::Result {
         for day in self.0 {
-            let name = Day::at(*day).name();
+            let name = Day::at_or_last(*day).name();
             write!(f, " {name}")?;
         }
         Ok(())
@@ -152,7 +152,7 @@ impl fmt::Display for Report<'_> {
     ghost output = { λ r. Some (report_text r.week.now r.first.now r.second.now r.crossings.now r.saves) };
 
     fn fmt<W: fmt::Write>(&self, f: &mut fmt::Formatter<W>) -> fmt::Result {
-        let accepted = Accepted {
+        let saved = Saved {
             week: self.week,
             first: self.first,
             second: self.second,
@@ -173,6 +173,6 @@ impl fmt::Display for Report<'_> {
             crossing: &self.crossings.turned,
         };
         let verdict = self.crossings.verdict(self.saves).words();
-        write!(f, "{accepted}\n{straight}\n{mixed}\n{turned}\n{verdict}")
+        write!(f, "{saved}\n{straight}\n{mixed}\n{turned}\n{verdict}")
     }
 }

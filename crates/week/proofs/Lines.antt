@@ -17,3 +17,8 @@ more (d ∷ days) (r ∷ rows) (suc i) day row h l =
 pub lines_more : (days : List Day) (rows : List DayRow) (i : ℕ) (day : Day) (row : DayRow) → i < length days → i < length rows
     → lines_text (take (i + 1) days) (take (i + 1) rows) ≡ lines_text (take i days) (take i rows) ++ (line_text (get_or days i day) (get_or rows i row) ++ codes "\n")
 lines_more days rows i day row h l = rw add-one (more days rows i day row h l)
+
+-- what is said before a verdict, and then the verdict t on a line of its own, as one text
+pub append-verdict : (a lines b m c n d nl t : List ℕ)
+    → (a ++ (lines ++ (b ++ (m ++ (c ++ (n ++ d)))))) ++ (nl ++ t) ≡ a ++ (lines ++ (b ++ (m ++ (c ++ (n ++ ((d ++ nl) ++ t))))))
+append-verdict a lines b m c n d nl t = simp append_assoc

@@ -10,6 +10,7 @@ use Rattle.week.specs.declared.fault.CheckFault.TheVariants.{Day as DayFault, Sa
 use Rattle.week.specs.declared.verdict.Verdict.{Verdict}
 use Rattle.week.specs.declared.verdict.Verdict.TheVariants.{MayLeave, Stays}
 use Rattle.week.specs.declared.verdict.Checked.{Checked}
+use Rattle.week.specs.declared.week.Week.{Week}
 use Rattle.week.specs.Drawing.{sign_of, hours_in}
 use Rattle.week.specs.Fault.{refusal_of}
 use Rattle.week.specs.Reason.{reason_of, reason_text}
@@ -48,6 +49,12 @@ abbrev pub lines_text : List Day → List DayRow → List ℕ
 lines_text [] rows = []
 lines_text (day ∷ days) [] = []
 lines_text (day ∷ days) (row ∷ rows) = line_text day row ++ (codes "\n" ++ lines_text days rows)
+
+-- a week and its two saves, without a verdict
+abbrev pub saved_text : Week DayRow → List ℕ → List ℕ → List ℕ
+saved_text week first second =
+    codes "Hours from midnight: '.' off, '-' low, '#' comfort\n"
+    ++ (lines_text week_days week.days ++ (codes "First save:  " ++ (decimal (length first) ++ (codes " bytes\nSecond save: " ++ (decimal (length second) ++ codes " bytes")))))
 
 -- a week and its two saves
 abbrev pub accepted_text : Checked DayRow → List ℕ → List ℕ → List ℕ

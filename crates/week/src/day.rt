@@ -1,5 +1,5 @@
 ghost use Rattle.std.specs.Prelude.{◌≡◌, ◌<◌, slice_index_or};
-ghost use Rattle.week.specs.declared.day.Day.TheVariants.{Monday};
+ghost use Rattle.week.specs.declared.day.Day.TheVariants.{Monday, Sunday};
 ghost use Rattle.week.specs.Report.{day_text};
 ghost use Rattle.week.specs.Week.{day_index, week_days};
 
@@ -39,6 +39,13 @@ impl Day {
             5 => Day::Saturday,
             _ => Day::Sunday,
         }
+    }
+
+    // The day at a place of the week, for numbers from outside: every place from 6 on is Sunday.
+    pub fn at_or_last(i: usize) -> Day
+        ensures { result ≡ slice_index_or week_days i Sunday }
+    {
+        if i < 7 { Day::at(i) } else { Day::Sunday }
     }
 
     pub fn name(self) -> &'static str

@@ -1,6 +1,6 @@
 // The release check's report, as a person reads it.
 ghost use Rattle.std.specs.Prelude.{◌≡◌, Some};
-ghost use Rattle.week.specs.Report.{verdict_text, line_text, lines_text, accepted_text, subject_text, refused_text};
+ghost use Rattle.week.specs.Report.{verdict_text, line_text, lines_text, saved_text, accepted_text, subject_text, refused_text};
 ghost use Rattle.week.specs.Week.{week_days};
 
 use crate::day::Day;
@@ -61,6 +61,28 @@ impl fmt::Display for DayLines<'_> {
     }
 }
 
+// A week and its two saves: what a report on them says before its verdict.
+#[derive(Clone, Copy)]
+pub struct Saved<'a> {
+    pub week: &'a Week<DayRow>,
+    pub first: &'a [u8],
+    pub second: &'a [u8],
+}
+
+impl fmt::Display for Saved<'_> {
+    ghost output = { λ s. Some (saved_text s.week.now s.first.now s.second.now) };
+
+    fn fmt<W: fmt::Write>(&self, f: &mut fmt::Formatter<W>) -> fmt::Result {
+        let lines = DayLines(self.week);
+        let first = self.first.len();
+        let second = self.second.len();
+        write!(
+            f,
+            "Hours from midnight: '.' off, '-' low, '#' comfort\n{lines}First save:  {first} bytes\nSecond save: {second} bytes"
+        )
+    }
+}
+
 // A week that was accepted, and its two saves.
 #[derive(Clone, Copy)]
 pub struct Accepted<'a> {
@@ -73,14 +95,13 @@ impl fmt::Display for Accepted<'_> {
     ghost output = { λ a. Some (accepted_text a.checked.now a.first.now a.second.now) };
 
     fn fmt<W: fmt::Write>(&self, f: &mut fmt::Formatter<W>) -> fmt::Result {
-        let lines = DayLines(&self.checked.week);
-        let first = self.first.len();
-        let second = self.second.len();
+        let saved = Saved {
+            week: &self.checked.week,
+            first: self.first,
+            second: self.second,
+        };
         let verdict = self.checked.verdict.words();
-        write!(
-            f,
-            "Hours from midnight: '.' off, '-' low, '#' comfort\n{lines}First save:  {first} bytes\nSecond save: {second} bytes\n{verdict}"
-        )
+        write!(f, "{saved}\n{verdict}")
     }
 }
 
