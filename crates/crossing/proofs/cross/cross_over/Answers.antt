@@ -15,8 +15,8 @@ try_held-held-requires g c =
     let sent = ap length waits ∙ week_long 0 c.args.week.now.days ∙ c.args.week.now.whole in
     omega arith
 
-pub receive-requires : goal.receive-requires
-receive-requires g c =
+pub receive-days-requires : goal.receive-days-requires
+receive-days-requires g c =
     let days = c.args.week.now.days in
     let waits = c.try_held-held.ensures.after ∙ c.try_missing-missing.ensures.after ∙ c.try_full-full.ensures.after ∙ c.send-posted.ensures.after in
     (search rules, (ap length waits ∙ week_long 0 days ∙ c.args.week.now.whole, waits ∙ ap (week_messages 0) (sym (ap contents waits ∙ week_contents 0 days))))
@@ -29,12 +29,12 @@ returns g c =
     let tried = c.try_missing-missing.ensures.after ∙ filled in
     let waits = c.try_held-held.ensures.after ∙ tried in
     let long = week_long 0 days in
-    let arrived = c.receive.ensures.days ∙ ap contents waits ∙ week_contents 0 days in
-    let left : c.count.result ≡ 0 = c.count.ensures ∙ ap length c.receive.ensures.after in
+    let arrived = c.receive-days.ensures.days ∙ ap contents waits ∙ week_contents 0 days in
+    let left : c.count.result ≡ 0 = c.count.ensures ∙ ap length c.receive-days.ensures.after in
     record {
       same = arrived;
       seen_same = c.same_week.ensures.1 (sym arrived);
-      sequence = c.receive.ensures.order ∙ ap (λ ms. arrivals c.args.order ready (length ms) ms) waits ∙ ap (λ n. arrivals c.args.order ready n (week_messages 0 days)) long;
+      sequence = c.receive-days.ensures.order ∙ ap (λ ms. arrivals c.args.order ready (length ms) ms) waits ∙ ap (λ n. arrivals c.args.order ready n (week_messages 0 days)) long;
       posted = c.send-posted.ensures.value;
       taken = omega (arith, c.send-posted.ensures.value);
       full = c.try_full-full.ensures.value;
