@@ -1,6 +1,6 @@
 -- Fields and bytes of a valve record.
-use Rattle.std.specs.Prelude.{◌≡◌, ℕ, ◌+◌, ◌*◌, ◌<◌, true, List, [], ◌∷◌, length, pos, None, int_le, nat_le, slice_index, refl}
-use Rattle.std.proofs.Common.{sym, ◌∙◌, arith, of_z, to_z}
+use Rattle.std.specs.Prelude.{◌≡◌, ℕ, ◌+◌, ◌*◌, ◌<◌, List, [], ◌∷◌, length, pos, None, int_le, nat_le, slice_index, refl}
+use Rattle.std.proofs.Common.{sym, ◌∙◌, arith, of_z}
 use Rattle.std.specs.Int.{w16}
 use Rattle.std.proofs.lemmas.List.FromFn.{fill_by_all}
 use Rattle.std.proofs.lemmas.Int.{of_z-to_z, ints}

@@ -1,4 +1,4 @@
-use Rattle.std.proofs.Common.{◌≡◌, ◌-◌, cond, length, Some, None, sym, ap, ◌∙◌, arith, rules}
+use Rattle.std.proofs.Common.{◌≡◌, cond, length, Some, None, sym, ap, ◌∙◌, arith, rules}
 use Rattle.network.specs.declared.fault.NetworkFault.TheVariants.{NoPlace, NotReady}
 use Rattle.crossing.specs.Crossing.{week_messages, contents, arrivals}
 use Rattle.crossing.proofs.Messages.{week_long, week_contents}

@@ -12,5 +12,5 @@ returns-clause-writes g c plain ok =
     let second = c.args.self.now.second.now in
     let words = ap (λ t. saved_text week first second ++ (codes "\n" ++ t)) c.words-verdict.ensures in
     let whole = append-verdict (codes "Hours from midnight: '.' off, '-' low, '#' comfort\n") (lines_text week_days week.days) (codes "First save:  ") (decimal (length first))
-        (codes " bytes\nSecond save: ") (decimal (length second)) (codes " bytes") (codes "\n") _ in
+    (codes " bytes\nSecond save: ") (decimal (length second)) (codes " bytes") (codes "\n") _ in
     has_written_of_eq g.W.Write.write_str_gives c.args.f.now _ _ c.write.new.self (words ∙ whole) (c.write.ensures.writes plain ok)
