@@ -1,9 +1,9 @@
 // The release check on one week's schedule: loads it, saves it twice, compares, and says whether the build may leave.
 #![tactic(auto)]
 
-use anyhow::anyhow;
 use kinds::row::DayRow;
 use std::io::Read;
+use std::process::ExitCode;
 use std::{env, fs, io};
 use week::check::check_week;
 use week::reason::WEEK_BYTES;
@@ -48,7 +48,7 @@ fn check(rt: &HostRuntime, bytes: &[u8]) -> io::Result<Verdict> {
     }
 }
 
-fn main(rt: HostRuntime) -> anyhow::Result<()> {
+fn main(rt: HostRuntime) -> io::Result<ExitCode> {
     let verdict = match input(&rt) {
         Ok(bytes) => check(&rt, bytes.as_slice())?,
         Err(e) => {
@@ -58,7 +58,7 @@ fn main(rt: HostRuntime) -> anyhow::Result<()> {
         }
     };
     match verdict {
-        Verdict::MayLeave => Ok(()),
-        Verdict::Stays => Err(anyhow!("the build stays")),
+        Verdict::MayLeave => Ok(ExitCode::SUCCESS),
+        Verdict::Stays => Ok(ExitCode::FAILURE),
     }
 }
