@@ -43,7 +43,8 @@ impl Day {
 
     // The day at a place of the week, for numbers from outside: every place from 6 on is Sunday.
     pub fn at_or_last(i: usize) -> Day
-        ensures { result ≡ slice_index_or week_days i Sunday }
+        ensures index { i < 7 → day_index result ≡ i }
+        ensures item { result ≡ slice_index_or week_days i Sunday }
     {
         if i < 7 { Day::at(i) } else { Day::Sunday }
     }

@@ -12,7 +12,7 @@ loop-day-preserved g c plain =
     let w = c.write.ensures.writes p.plain (ap is_ok c.in_ok-write.was) in
     let days = c.args.self.now.0.now in
     let i = c.loop-day.day-index in
-    let here = ap (λ name. codes " " ++ name) (c.name-name.ensures ∙ ap day_text c.at_or_last.ensures) in
+    let here = ap (λ name. codes " " ++ name) (c.name-name.ensures ∙ ap day_text c.at_or_last.ensures.item) in
     has_written_of_eq g.W.Write.write_str_gives c.args.f.now _ _ c.write.new.self (ap (λ text. days_text (take i days) ++ text) here ∙ sym (days_more days i (omega arith)))
     (has_written_append g.W.Write.write_str_gives c.args.f.now _ c.loop-day.f _ c.write.new.self p w)
 
