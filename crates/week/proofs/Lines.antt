@@ -19,6 +19,6 @@ pub lines_more : (days : List Day) (rows : List DayRow) (i : ℕ) (day : Day) (r
 lines_more days rows i day row h l = rw add-one (more days rows i day row h l)
 
 -- what is said before a verdict, and then the verdict t on a line of its own, as one text
-pub append-verdict : (a lines b m c n d nl t : List ℕ)
+pub append_verdict : (a lines b m c n d nl t : List ℕ)
     → (a ++ (lines ++ (b ++ (m ++ (c ++ (n ++ d)))))) ++ (nl ++ t) ≡ a ++ (lines ++ (b ++ (m ++ (c ++ (n ++ ((d ++ nl) ++ t))))))
-append-verdict a lines b m c n d nl t = simp append_assoc
+append_verdict a lines b m c n d nl t = simp append_assoc
