@@ -24,6 +24,7 @@ pub enum Place {
     Entry { board: usize, block: usize },
 }
 
+// A line of the table of refusals. Each layer's fault converts into its line by `From`.
 #[derive(Clone, Copy, PartialEq, Eq, Debug)]
 pub struct Refusal {
     pub layer: Layer,
@@ -35,11 +36,11 @@ impl fmt::Display for Layer {
     ghost output = { λ x. Some (layer_text x) };
 
     fn fmt<W: fmt::Write>(&self, f: &mut fmt::Formatter<W>) -> fmt::Result {
-        match self {
-            Layer::Kind => write!(f, "kind"),
-            Layer::Network => write!(f, "network"),
-            Layer::House => write!(f, "house"),
-        }
+        f.write_str(match self {
+            Layer::Kind => "kind",
+            Layer::Network => "network",
+            Layer::House => "house",
+        })
     }
 }
 
@@ -59,9 +60,10 @@ impl fmt::Display for Refusal {
     ghost output = { λ x. Some (refusal_text x) };
 
     fn fmt<W: fmt::Write>(&self, f: &mut fmt::Formatter<W>) -> fmt::Result {
-        let layer = self.layer;
-        let number = self.number;
-        let place = self.place;
-        write!(f, "layer {layer}, number {number}, place {place}")
+        write!(
+            f,
+            "layer {}, number {}, place {}",
+            self.layer, self.number, self.place
+        )
     }
 }
