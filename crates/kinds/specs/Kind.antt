@@ -1,5 +1,5 @@
 -- What a content kind reads and writes, over the bytes of its contents and the faults of refused bytes.
-use Rattle.std.specs.Prelude.{◌≡◌, ℕ, Bool, cond, List, length, Some, None, Ok, Err, Option, Result, ◌==◌, ◌≢◌}
+use Rattle.std.specs.Prelude.{◌≡◌, ℕ, Bool, if◌then◌else◌, List, length, Some, None, Ok, Err, Option, Result, ◌==◌, ◌≢◌}
 use Rattle.kinds.specs.declared.fault.ContentFault.{ContentFault}
 use Rattle.kinds.specs.declared.fault.ContentFault.TheVariants.{WrongLength, BadContent}
 
@@ -10,7 +10,7 @@ Reads bytes fault bs (Err e) = fault bs ≡ Some e
 
 -- the fault of bytes for a kind that is n wide: a wrong length comes before what the bytes hold
 abbrev pub fault_after : ℕ → List ℕ → Bool → Option ContentFault
-fault_after n bs legal = cond (length bs == n) (cond legal None (Some BadContent)) (Some WrongLength)
+fault_after n bs legal = if length bs == n then (if legal then None else Some BadContent) else Some WrongLength
 
 -- a slice that is n long becomes bs, and any other stays as it was
 abbrev pub Writes : ℕ → List ℕ → List ℕ → List ℕ → Result (Unit {0}) ContentFault → Type 0

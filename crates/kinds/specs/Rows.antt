@@ -23,23 +23,19 @@ mode_of_code Low = refl
 mode_of_code Comfort = refl
 
 pub code_apart : (m n : HourMode) → code_of m ≡ code_of n → m ≡ n
-code_apart m n e =
-    let a = mode_of_code m in
-    let b = mode_of_code n in
-    let c : mode_of (code_of m) ≡ mode_of (code_of n) = ap mode_of e in
-    cc
+code_apart m n e = cc (mode_of_code m, mode_of_code n)
 
 -- the code of the mode that a code stands for, and no mode for 3
 pub code_of_mode : (n : ℕ) (m : HourMode) → mode_of n ≡ Some m → code_of m ≡ n
-code_of_mode zero m e = let h : m ≡ Off = cc in ap code_of h
-code_of_mode (suc zero) m e = let h : m ≡ Low = cc in ap code_of h
-code_of_mode (suc (suc zero)) m e = let h : m ≡ Comfort = cc in ap code_of h
-code_of_mode (suc (suc (suc n))) m e = let z : ◌≡◌ {A = ℕ} 0 1 = cc in absurd (omega arith)
+code_of_mode zero m e = cc
+code_of_mode (suc zero) m e = cc
+code_of_mode (suc (suc zero)) m e = cc
+code_of_mode (suc (suc (suc n))) m e = cc
 
 pub no_mode : (n : ℕ) → mode_of n ≡ None → 3 ≤ n
-no_mode zero e = let z : ◌≡◌ {A = ℕ} 0 1 = cc in absurd (omega arith)
-no_mode (suc zero) e = let z : ◌≡◌ {A = ℕ} 0 1 = cc in absurd (omega arith)
-no_mode (suc (suc zero)) e = let z : ◌≡◌ {A = ℕ} 0 1 = cc in absurd (omega arith)
+no_mode zero e = cc
+no_mode (suc zero) e = cc
+no_mode (suc (suc zero)) e = cc
 no_mode (suc (suc (suc n))) e = omega arith
 
 -- what holds of every hour, and what one bad hour does

@@ -1,7 +1,9 @@
 ghost use Rattle.std.specs.Prelude.{◌≡◌};
+ghost use Rattle.kinds.specs.declared.fault.ContentFault.TheVariants.{WrongLength};
 ghost use Rattle.kinds.specs.Fault.{is_length, refusal_of};
 
 use refusal::{Layer, Place, Refusal};
+use std::array::TryFromSliceError;
 
 // Why a kind refused: the slice is not as long as the kind is wide, or its bytes stand for no content.
 #[derive(Clone, Copy, PartialEq, Eq, Debug)]
@@ -10,12 +12,21 @@ pub enum ContentFault {
     BadContent,
 }
 
-impl ContentFault {
-    // The fault's line in the table of refusals.
-    pub fn refusal(&self) -> Refusal
-        ensures { result ≡ refusal_of self.now }
-    {
-        match self {
+// A slice that is no array of the kind's width has a wrong length.
+impl From<TryFromSliceError> for ContentFault {
+    ghost from_gives = { λ e r. r ≡ WrongLength };
+
+    fn from(_e: TryFromSliceError) -> ContentFault {
+        Self::WrongLength
+    }
+}
+
+// The fault's line in the table of refusals.
+impl From<ContentFault> for Refusal {
+    ghost from_gives = { λ e r. r ≡ refusal_of e };
+
+    fn from(e: ContentFault) -> Refusal {
+        match e {
             ContentFault::WrongLength | ContentFault::BadContent => Refusal {
                 layer: Layer::Kind,
                 number: 21,
@@ -23,7 +34,9 @@ impl ContentFault {
             },
         }
     }
+}
 
+impl ContentFault {
     // Whether the slice's length was wrong, whatever its bytes were.
     pub fn is_length(&self) -> bool
         ensures { result ≡ is_length self.now }

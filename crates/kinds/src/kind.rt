@@ -1,4 +1,4 @@
-ghost use Rattle.std.specs.Prelude.{◌≡◌, ℕ, ◌<◌, ◌≤◌, List, length, Some, None, Option, ◌≢◌, slice_index};
+ghost use Rattle.std.specs.Prelude.{◌≡◌, ℕ, ◌<◌, ◌≤◌, List, length, Some, None, Option, ◌≢◌, ◌↔◌, slice_index};
 ghost use Rattle.kinds.specs.declared.fault.ContentFault.TheVariants.{WrongLength};
 ghost use Rattle.kinds.specs.declared.fault.ContentFault.{ContentFault as Fault};
 ghost use Rattle.kinds.specs.Kind.{Reads, Writes};
@@ -44,5 +44,19 @@ pub trait Kind: Copy {
     ghost complete: { (bs : List ℕ) → ((k : ℕ) → slice_index bs k < 256) → fault bs ≡ None → (x : Self) × (bytes x ≡ bs) };
 
     // a wrong length is refused as such, whatever the bytes are, and nothing else is
-    ghost measured: { (bs : List ℕ) → ((length bs ≢ width) → fault bs ≡ Some WrongLength) × (fault bs ≡ Some WrongLength → length bs ≢ width) };
+    ghost measured: { (bs : List ℕ) → (length bs ≢ width) ↔ (fault bs ≡ Some WrongLength) };
+}
+
+// Writes the bytes of a content over the whole slice; one of another length stays as it was.
+pub(crate) fn write_whole<const N: usize>(
+    bytes: &[u8; N],
+    to: &mut [u8],
+) -> Result<(), ContentFault>
+    ensures { Writes N bytes.now to.old to.new result }
+{
+    if to.len() != N {
+        return Err(ContentFault::WrongLength);
+    }
+    to.copy_from_slice(bytes);
+    Ok(())
 }

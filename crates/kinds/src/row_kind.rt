@@ -9,41 +9,44 @@ ghost use Rattle.kinds.specs.contracts.row.DayRow.{struct, the_propositions};
 ghost use Rattle.kinds.specs.Rows.{code_apart, hour_bits-row_bytes, code_le, all_legal, row_complete};
 ghost use Rattle.std.proofs.lemmas.List.FromFn.{length-map-range_with_len};
 ghost use Rattle.kinds.specs.Faults.{fault_fine};
+ghost use Rattle.std.specs.Option.{ok_or};
+ghost use Rattle.kinds.specs.declared.fault.ContentFault.TheVariants.{BadContent};
 
 use crate::fault::ContentFault;
-use crate::kind::Kind;
+use crate::kind::{Kind, write_whole};
 use crate::row::{DayRow, HourMode};
+use std::array;
 
-impl HourMode {
-    // The mode that a two-bit code stands for; 3 stands for none.
-    pub fn from_code(code: u8) -> Option<HourMode>
-        ensures { result ≡ mode_of code }
-    {
+// The mode that a two-bit code stands for; 3 stands for none.
+impl TryFrom<u8> for HourMode {
+    type Error = ContentFault;
+
+    ghost try_from_gives = { λ code r. r ≡ ok_or (mode_of code) BadContent };
+
+    fn try_from(code: u8) -> Result<HourMode, ContentFault> {
         match code {
-            0 => Some(HourMode::Off),
-            1 => Some(HourMode::Low),
-            2 => Some(HourMode::Comfort),
-            _ => None,
-        }
-    }
-
-    pub fn code(self) -> u8
-        ensures { result ≡ code_of self }
-    {
-        match self {
-            HourMode::Off => 0,
-            HourMode::Low => 1,
-            HourMode::Comfort => 2,
+            0 => Ok(HourMode::Off),
+            1 => Ok(HourMode::Low),
+            2 => Ok(HourMode::Comfort),
+            _ => Err(ContentFault::BadContent),
         }
     }
 }
 
+impl From<HourMode> for u8 {
+    ghost from_gives = { λ mode code. code ≡ code_of mode };
+
+    fn from(mode: HourMode) -> u8 {
+        mode as u8
+    }
+}
+
 // The two bits in which a row's bytes hold an hour.
-fn code_at(from: &[u8], hour: usize) -> u8
-    requires { (length from.now ≡ 6) × (hour < 24) }
-    ensures { result ≡ hour_bits from.now hour }
+fn code_at(bytes: &[u8; 6], hour: usize) -> u8
+    requires { hour < 24 }
+    ensures { result ≡ hour_bits bytes.now hour }
 {
-    (from[hour / 4] >> (2 * (hour % 4))) % 4
+    (bytes[hour / 4] >> (2 * (hour % 4))) % 4
 }
 
 impl DayRow {
@@ -52,9 +55,9 @@ impl DayRow {
         requires { i < 6 }
         ensures { result ≡ row_byte self.now.hours i }
     {
-        let h = &self.hours;
+        let code = |hour: usize| u8::from(self.hours[hour]);
         let at = 4 * i;
-        h[at].code() + 4 * h[at + 1].code() + 16 * h[at + 2].code() + 64 * h[at + 3].code()
+        code(at) + 4 * code(at + 1) + 16 * code(at + 2) + 64 * code(at + 3)
     }
 }
 
@@ -65,11 +68,11 @@ impl Kind for DayRow {
 
     ghost fault = { row_fault };
 
-    ghost bounded = { first_of (Prim.search rules, Prim.grind (arith, Self.row.coded.inj)) };
+    ghost bounded = { Prim.search rules };
 
-    ghost sized = { first_of (Prim.search rules, Prim.grind (arith, Self.row.coded.inj)) };
+    ghost sized = { Prim.search rules };
 
-    ghost octets = { first_of (Prim.search rules, Prim.grind (arith, Self.row.coded.inj)) };
+    ghost octets = { Prim.search rules };
 
     ghost injective = { λ x y e.
         let same : x.hours ≡ y.hours = ext_get_or Off x.hours y.hours (omega arith)
@@ -82,34 +85,27 @@ impl Kind for DayRow {
 
     ghost complete = { λ bs small none. row_complete bs small none };
 
-    ghost measured = { first_of (Prim.search rules, Prim.grind (arith, Self.row.coded.inj)) };
+    ghost measured = { Prim.search rules };
 
     fn width() -> usize {
         6 // 24 hours, four to a byte
     }
 
     fn read(from: &[u8]) -> Result<DayRow, ContentFault> {
-        if from.len() != 6 {
-            return Err(ContentFault::WrongLength);
-        }
+        let bytes = <[u8; 6]>::try_from(from)?;
         let mut hours = [HourMode::Off; 24];
-        for i in 0..24 {
-            let Some(mode) = HourMode::from_code(code_at(from, i)) else {
-                return Err(ContentFault::BadContent);
-            };
-            hours[i] = mode;
+        for (hour, mode) in hours.iter_mut().enumerate() {
+            *mode = HourMode::try_from(code_at(&bytes, hour))?;
         }
         Ok(DayRow { hours })
     }
 
     fn write(&self, to: &mut [u8]) -> Result<(), ContentFault> {
-        if to.len() != 6 {
-            return Err(ContentFault::WrongLength);
+        let mut bytes = [0; 6];
+        for (i, byte) in bytes.iter_mut().enumerate() {
+            *byte = self.packed(i);
         }
-        for i in 0..6 {
-            to[i] = self.packed(i);
-        }
-        Ok(())
+        write_whole(&bytes, to)
     }
 }
 

@@ -7,7 +7,7 @@ ghost use Rattle.kinds.specs.contracts.valve.Valve.{struct, the_propositions};
 ghost use Rattle.kinds.specs.Valves.{valve_complete};
 
 use crate::fault::ContentFault;
-use crate::kind::Kind;
+use crate::kind::{Kind, write_whole};
 use crate::valve::Valve;
 
 impl Kind for Valve {
@@ -17,11 +17,11 @@ impl Kind for Valve {
 
     ghost fault = { valve_fault };
 
-    ghost bounded = { first_of (Prim.search rules, Prim.grind (arith, Self.row.coded.inj)) };
+    ghost bounded = { Prim.search rules };
 
-    ghost sized = { first_of (Prim.search rules, Prim.grind (arith, Self.row.coded.inj)) };
+    ghost sized = { Prim.search rules };
 
-    ghost octets = { first_of (Prim.search rules, Prim.grind (arith, Self.row.coded.inj)) };
+    ghost octets = { Prim.search rules };
 
     ghost injective = { λ x y e.
         let low : low_byte x.setpoint ≡ low_byte y.setpoint = cc in
@@ -31,22 +31,20 @@ impl Kind for Valve {
         let f : x.flags ≡ y.flags = cc in
         values_one struct the_propositions x y (λ i. (s i, (o i, (f i, tt)))) };
 
-    ghost readable = { first_of (Prim.search rules, Prim.grind (arith, Self.row.coded.inj)) };
+    ghost readable = { Prim.search rules };
 
     ghost complete = { λ bs small none. valve_complete bs small none };
 
-    ghost measured = { first_of (Prim.search rules, Prim.grind (arith, Self.row.coded.inj)) };
+    ghost measured = { Prim.search rules };
 
     fn width() -> usize {
         4 // two for the setpoint, one for the opening, one for the flags
     }
 
     fn read(from: &[u8]) -> Result<Valve, ContentFault> {
-        let [low, high, opening, flags] = *from else {
-            return Err(ContentFault::WrongLength);
-        };
+        let [low, high, opening, flags] = <[u8; 4]>::try_from(from)?;
         let setpoint = i16::from_le_bytes([low, high]);
-        if setpoint < 50 || setpoint > 300 || opening > 100 || flags > 3 {
+        if !(50..=300).contains(&setpoint) || opening > 100 || flags > 3 {
             return Err(ContentFault::BadContent);
         }
         Ok(Valve {
@@ -57,12 +55,8 @@ impl Kind for Valve {
     }
 
     fn write(&self, to: &mut [u8]) -> Result<(), ContentFault> {
-        if to.len() != 4 {
-            return Err(ContentFault::WrongLength);
-        }
         let [low, high] = self.setpoint.to_le_bytes();
-        to.copy_from_slice(&[low, high, self.opening, self.flags]);
-        Ok(())
+        write_whole(&[low, high, self.opening, self.flags], to)
     }
 }
 
