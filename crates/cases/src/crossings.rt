@@ -8,6 +8,8 @@ use kinds::valve::Valve;
 use network::fault::NetworkFault;
 use network::lanes::Lanes;
 use network::open_bus::OpenBus;
+use network::readiness::Readiness;
+use std::alloc::Global;
 use std::process::Abort;
 use std::test::Fail;
 use week::week::Week;
@@ -66,32 +68,35 @@ static VALVES: [u8; 28] = [
     0, 0, 0,
 ];
 
-#[test]
-fn rows(rt: HostRuntime) -> Result<(), Fail> {
-    let week = Week::<DayRow>::load(&ROWS)?;
-    for case in OVER_LANES.iter() {
-        let seen = cross(rt.alloc(), Lanes, &week, case.order)?;
-        seen_as(&rt, &week, &seen, case);
-    }
-    for case in OVER_BUS.iter() {
-        let seen = cross(rt.alloc(), OpenBus, &week, case.order)?;
-        seen_as(&rt, &week, &seen, case);
+// Each case's crossing over a network of its own.
+fn over<K: Kind, R: Readiness<K>>(
+    rt: &impl Abort,
+    heap: Global,
+    readiness: R,
+    cases: &[Case],
+    week: &Week<K>,
+) -> Result<(), Fail> {
+    for case in cases {
+        let seen = cross(heap, readiness, week, case.order)?;
+        seen_as(rt, week, &seen, case);
     }
     Ok(())
 }
 
+fn crosses<K: Kind>(rt: &impl Abort, heap: Global, bytes: &[u8]) -> Result<(), Fail> {
+    let week = Week::<K>::load(bytes)?;
+    over(rt, heap, Lanes, &OVER_LANES, &week)?;
+    over(rt, heap, OpenBus, &OVER_BUS, &week)
+}
+
+#[test]
+fn rows(rt: HostRuntime) -> Result<(), Fail> {
+    crosses::<DayRow>(&rt, rt.alloc(), &ROWS)
+}
+
 #[test]
 fn valves(rt: HostRuntime) -> Result<(), Fail> {
-    let week = Week::<Valve>::load(&VALVES)?;
-    for case in OVER_LANES.iter() {
-        let seen = cross(rt.alloc(), Lanes, &week, case.order)?;
-        seen_as(&rt, &week, &seen, case);
-    }
-    for case in OVER_BUS.iter() {
-        let seen = cross(rt.alloc(), OpenBus, &week, case.order)?;
-        seen_as(&rt, &week, &seen, case);
-    }
-    Ok(())
+    crosses::<Valve>(&rt, rt.alloc(), &VALVES)
 }
 
 // A week differs from one in which any single day is another.
@@ -129,7 +134,7 @@ static PRINTED: [Printed; 2] = [
 
 #[test]
 fn shown(rt: HostRuntime) -> Result<(), Fail> {
-    for case in PRINTED.iter() {
+    for case in &PRINTED {
         let crossing = Crossing {
             arrived: Week::<DayRow>::load(&ROWS)?,
             equal: case.equal,

@@ -4,6 +4,8 @@
 #[cfg(test)]
 mod crossings;
 #[cfg(test)]
+mod lengths;
+#[cfg(test)]
 mod networks;
 #[cfg(test)]
 mod rows;

@@ -8,12 +8,9 @@ use network::message::{Message, MessageKind};
 use network::network::Network;
 use network::open_bus::OpenBus;
 use network::queue::Queue;
-use refusal::{Layer, Place};
+use refusal::{Layer, Place, Refusal};
 use std::process::Abort;
 use std::test::Fail;
-
-// A message as its parts, which can be compared.
-type Parts = (MessageKind, [usize; 4], u8);
 
 // The sender and the receiver of each sample. 4 and 7 are the way back of 0; 1 has its sender alone,
 // and 5 its receiver alone.
@@ -41,28 +38,11 @@ fn sample(content: u8) -> Message<u8> {
     }
 }
 
-fn parts(message: Message<u8>) -> Parts {
-    let numbers = [
-        message.block,
-        message.sender,
-        message.receiver,
-        message.requester,
-    ];
-    (message.kind, numbers, message.content)
-}
-
-fn answered(answer: Result<Message<u8>, NetworkFault>) -> Result<Parts, NetworkFault> {
-    match answer {
-        Ok(message) => Ok(parts(message)),
-        Err(fault) => Err(fault),
-    }
-}
-
 // An empty network accepts exactly as many messages as its capacity, and one more once one is taken.
 fn fills<N: Network<u8>>(rt: &impl Abort, network: &mut N, capacity: u16) {
     assert_eq!(rt; network.capacity(), capacity);
     assert_eq!(rt; network.count(), 0);
-    assert_eq!(rt; answered(network.take(0)), Err(NetworkFault::NoPlace(0)));
+    assert_eq!(rt; network.take(0), Err(NetworkFault::NoPlace(0)));
     for posted in 0..capacity as usize {
         assert_eq!(rt; network.post(sample((posted % 256) as u8)), Ok(()));
         assert_eq!(rt; network.count(), posted + 1);
@@ -70,11 +50,11 @@ fn fills<N: Network<u8>>(rt: &impl Abort, network: &mut N, capacity: u16) {
     assert_eq!(rt; network.post(sample(0)), Err(NetworkFault::Full));
     assert_eq!(rt; network.count(), capacity as usize);
     if capacity > 0 {
-        assert_eq!(rt; answered(network.take(0)), Ok(parts(sample(0))));
+        assert_eq!(rt; network.take(0), Ok(sample(0)));
         assert_eq!(rt; network.post(sample(1)), Ok(()));
         assert_eq!(rt; network.post(sample(2)), Err(NetworkFault::Full));
-        let last = answered(network.message(capacity as usize - 1));
-        assert_eq!(rt; last, Ok(parts(sample(1))));
+        let last = network.message(capacity as usize - 1);
+        assert_eq!(rt; last, Ok(sample(1)));
     }
     assert_eq!(rt; network.capacity(), capacity);
 }
@@ -83,7 +63,7 @@ static CAPACITIES: [u16; 4] = [0, 1, 7, 65535];
 
 #[test]
 fn capacities(rt: HostRuntime) -> Result<(), Fail> {
-    for capacity in CAPACITIES.iter() {
+    for capacity in &CAPACITIES {
         fills(
             &rt,
             &mut Queue::new(rt.alloc(), *capacity, OpenBus)?,
@@ -108,28 +88,21 @@ struct Step {
 
 fn waits<N: Network<u8>>(rt: &impl Abort, network: &N, step: &Step) {
     assert_eq!(rt; network.count(), step.waiting.len());
-    for place in 0..step.waiting.len() {
-        let content = step.waiting[place];
-        assert_eq!(rt;
-            answered(network.message(place)),
-            Ok(parts(sample(content)))
-        );
-        assert_eq!(rt; network.is_ready(place), Ok(step.ready.contains(&content)));
+    for (place, content) in step.waiting.iter().enumerate() {
+        assert_eq!(rt; network.message(place), Ok(sample(*content)));
+        assert_eq!(rt; network.is_ready(place), Ok(step.ready.contains(content)));
     }
 }
 
 // A missing place is missing to every call that names it.
 fn takes<N: Network<u8>>(rt: &impl Abort, network: &mut N, step: &Step) {
     let place = step.place;
-    let expected = match step.answer {
-        Ok(content) => Ok(parts(sample(content))),
-        Err(fault) => Err(fault),
-    };
+    let expected = step.answer.map(sample);
     if expected == Err(NetworkFault::NoPlace(place)) {
-        assert_eq!(rt; answered(network.message(place)), expected);
+        assert_eq!(rt; network.message(place), expected);
         assert_eq!(rt; network.is_ready(place), Err(NetworkFault::NoPlace(place)));
     }
-    assert_eq!(rt; answered(network.take(place)), expected);
+    assert_eq!(rt; network.take(place), expected);
     waits(rt, network, step);
 }
 
@@ -176,7 +149,7 @@ static OPEN: [Step; 5] = [
 
 #[test]
 fn open_bus(rt: HostRuntime) -> Result<(), Fail> {
-    for step in OPEN.iter() {
+    for step in &OPEN {
         let mut network = Queue::new(rt.alloc(), 5, OpenBus)?;
         posts(&rt, &mut network, 5);
         takes(&rt, &mut network, step);
@@ -274,7 +247,7 @@ static ALONG: [Step; 14] = [
 
 fn keeps_lanes<N: Network<u8>>(rt: &impl Abort, network: &mut N) {
     posts(rt, network, 8);
-    for step in ALONG.iter() {
+    for step in &ALONG {
         takes(rt, network, step);
     }
 }
@@ -327,11 +300,13 @@ static REFUSED: [Refused; 6] = [
 
 #[test]
 fn refusals(rt: HostRuntime) {
-    for case in REFUSED.iter() {
-        let refusal = case.fault.refusal();
-        assert_eq!(rt; refusal.layer, Layer::Network);
-        assert_eq!(rt; refusal.number, case.number);
-        assert_eq!(rt; refusal.place, case.place);
+    for case in &REFUSED {
+        let line = Refusal {
+            layer: Layer::Network,
+            number: case.number,
+            place: case.place,
+        };
+        assert_eq!(rt; Refusal::from(case.fault), line);
     }
 }
 
@@ -424,7 +399,11 @@ fn carried_up(rt: HostRuntime) -> Result<(), Fail> {
     let full = HigherFault::Network(NetworkFault::Full);
     assert_eq!(rt; exchange(&mut network, 0), Err(full));
     let HigherFault::Network(fault) = missing;
-    assert_eq!(rt; fault.refusal().number, 15);
-    assert_eq!(rt; fault.refusal().place, Place::Waiting(4));
+    let line = Refusal {
+        layer: Layer::Network,
+        number: 15,
+        place: Place::Waiting(4),
+    };
+    assert_eq!(rt; Refusal::from(fault), line);
     Ok(())
 }

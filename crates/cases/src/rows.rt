@@ -1,15 +1,8 @@
+use crate::lengths::refused_but;
 use kinds::fault::ContentFault;
 use kinds::kind::Kind;
 use kinds::round::round_trip;
 use kinds::row::{DayRow, HourMode};
-
-// A row as its hours, which can be compared.
-fn hours_of(row: Result<DayRow, ContentFault>) -> Result<[HourMode; 24], ContentFault> {
-    match row {
-        Ok(row) => Ok(row.hours),
-        Err(fault) => Err(fault),
-    }
-}
 
 // Six bytes with one hour at a code and every other hour off.
 fn with_hour(hour: usize, code: u8) -> [u8; 6] {
@@ -25,21 +18,21 @@ fn with_hour(hour: usize, code: u8) -> [u8; 6] {
 fn hours(rt: HostRuntime) {
     for hour in 0..24 {
         for code in 0..4 {
-            let row = hours_of(DayRow::read(&with_hour(hour, code)));
+            let row = DayRow::read(&with_hour(hour, code));
             let mut hours = [HourMode::Off; 24];
-            match HourMode::from_code(code) {
-                Some(mode) => {
+            match HourMode::try_from(code) {
+                Ok(mode) => {
                     hours[hour] = mode;
-                    assert_eq!(rt; row, Ok(hours));
+                    assert_eq!(rt; row, Ok(DayRow { hours }));
                 }
-                None => {
+                Err(_) => {
                     assert_eq!(rt; code, 3);
                     assert_eq!(rt; row, Err(ContentFault::BadContent));
                 }
             }
         }
     }
-    let last = hours_of(DayRow::read(&[0, 0, 0, 0, 0, 0xc0]));
+    let last = DayRow::read(&[0, 0, 0, 0, 0, 0xc0]);
     assert_eq!(rt; last, Err(ContentFault::BadContent));
 }
 
@@ -57,7 +50,7 @@ fn round_trips(rt: HostRuntime) {
             match DayRow::read(&bytes) {
                 Ok(row) => {
                     let mut out = [0xffu8; 6];
-                    assert_eq!(rt; hours_of(round_trip(&row, &mut out)), Ok(row.hours));
+                    assert_eq!(rt; round_trip(&row, &mut out), Ok(row));
                     assert_eq!(rt; out, bytes);
                 }
                 Err(fault) => {
@@ -69,23 +62,10 @@ fn round_trips(rt: HostRuntime) {
     }
 }
 
-// A length other than 6 is refused, and nothing is written.
 #[test]
 fn lengths(rt: HostRuntime) {
     let row = DayRow {
         hours: [HourMode::Comfort; 24],
     };
-    for n in 0..66 {
-        let mut bytes = [0x55u8; 66];
-        match DayRow::read(&bytes[0..n]) {
-            Ok(_) => assert_eq!(rt; n, 6),
-            Err(fault) => assert!(rt; fault.is_length() && n != 6),
-        }
-        let wrote = row.write(&mut bytes[0..n]);
-        assert_eq!(rt; wrote.is_ok(), n == 6);
-        if let Err(fault) = wrote {
-            assert_eq!(rt; fault, ContentFault::WrongLength);
-            assert_eq!(rt; bytes, [0x55u8; 66]);
-        }
-    }
+    refused_but(&rt, 6, &row, 0x55);
 }

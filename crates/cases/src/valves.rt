@@ -1,8 +1,9 @@
+use crate::lengths::refused_but;
 use kinds::fault::ContentFault;
 use kinds::kind::Kind;
 use kinds::round::round_trip;
 use kinds::valve::Valve;
-use refusal::{Layer, Place};
+use refusal::{Layer, Place, Refusal};
 
 struct Case {
     bytes: [u8; 4],
@@ -71,7 +72,7 @@ static CASES: [Case; 14] = [
 
 #[test]
 fn limits(rt: HostRuntime) {
-    for case in CASES.iter() {
+    for case in &CASES {
         match Valve::read(&case.bytes) {
             Ok(valve) => assert_eq!(rt;
                 Some((valve.setpoint, valve.opening, valve.flags)),
@@ -87,7 +88,7 @@ fn limits(rt: HostRuntime) {
 
 #[test]
 fn round_trips(rt: HostRuntime) {
-    for case in CASES.iter() {
+    for case in &CASES {
         if let Ok(valve) = Valve::read(&case.bytes) {
             let mut out = [0u8; 4];
             assert_eq!(rt; round_trip(&valve, &mut out), Ok(valve));
@@ -96,7 +97,6 @@ fn round_trips(rt: HostRuntime) {
     }
 }
 
-// A length other than 4 is refused, and nothing is written.
 #[test]
 fn lengths(rt: HostRuntime) {
     let valve = Valve {
@@ -104,28 +104,18 @@ fn lengths(rt: HostRuntime) {
         opening: 40,
         flags: 1,
     };
-    for n in 0..66 {
-        let mut bytes = [1u8; 66];
-        match Valve::read(&bytes[0..n]) {
-            Ok(_) => assert_eq!(rt; n, 4),
-            Err(fault) => assert!(rt; fault.is_length() && n != 4),
-        }
-        let wrote = valve.write(&mut bytes[0..n]);
-        assert_eq!(rt; wrote.is_ok(), n == 4);
-        if let Err(fault) = wrote {
-            assert_eq!(rt; fault, ContentFault::WrongLength);
-            assert_eq!(rt; bytes, [1u8; 66]);
-        }
-    }
+    refused_but(&rt, 4, &valve, 1);
 }
 
 // Both cases of the fault are refusal 21 of the kinds at place 0.
 #[test]
 fn refusals(rt: HostRuntime) {
-    for fault in [ContentFault::WrongLength, ContentFault::BadContent].iter() {
-        let refusal = fault.refusal();
-        assert_eq!(rt; refusal.layer, Layer::Kind);
-        assert_eq!(rt; refusal.number, 21);
-        assert_eq!(rt; refusal.place, Place::Zero);
+    let line = Refusal {
+        layer: Layer::Kind,
+        number: 21,
+        place: Place::Zero,
+    };
+    for fault in [ContentFault::WrongLength, ContentFault::BadContent] {
+        assert_eq!(rt; Refusal::from(fault), line);
     }
 }

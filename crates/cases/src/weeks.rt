@@ -163,7 +163,7 @@ static WORDS: [Words; 4] = [
 // A refusal in words.
 #[test]
 fn refusals_in_words(rt: HostRuntime) -> Result<(), Fail> {
-    for case in WORDS.iter() {
+    for case in &WORDS {
         let report = Refused {
             fault: case.fault,
             length: case.length,

@@ -15,7 +15,6 @@ ghost use Rattle.kinds.specs.declared.fault.ContentFault.TheVariants.{BadContent
 use crate::fault::ContentFault;
 use crate::kind::{Kind, write_whole};
 use crate::row::{DayRow, HourMode};
-use std::array;
 
 // The mode that a two-bit code stands for; 3 stands for none.
 impl TryFrom<u8> for HourMode {
