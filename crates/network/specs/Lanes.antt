@@ -1,6 +1,7 @@
 -- The lanes: messages from one board to another keep their order.
-use Rattle.std.specs.Prelude.{◌≡◌, ℕ, ◌<◌, Bool, true, false, not, ◌&&◌, List, [], ◌∷◌, take, Some, None, Option, ◌==◌, ◌≢◌}
-use Rattle.std.specs.List.{slice_get}
+use Rattle.std.specs.Prelude.{◌≡◌, ℕ, ◌<◌, Bool, false, not, ◌&&◌, List, take, Some, slice_get, ◌==◌, ◌≢◌}
+use Rattle.std.specs.List.{list_all}
+use Rattle.std.specs.Option.{option_map_or}
 use Rattle.network.specs.declared.message.Message.{Message}
 
 module _ {C : Type 0} where
@@ -13,16 +14,11 @@ module _ {C : Type 0} where
 
   -- none of the messages is on the lane of m
   abbrev pub lane_free : Message C → List (Message C) → Bool
-  lane_free m [] = true
-  lane_free m (x ∷ xs) = not (same_lane x m) && lane_free m xs
-
-  abbrev pub free_before : Option (Message C) → List (Message C) → Bool
-  free_before None earlier = false
-  free_before (Some m) earlier = lane_free m earlier
+  lane_free m = list_all (λ x. not (same_lane x m))
 
   -- whether the message at place k is the first on its lane
   abbrev pub is_first_on_lane : List (Message C) → ℕ → Bool
-  is_first_on_lane ms k = free_before (slice_get ms k) (take k ms)
+  is_first_on_lane ms k = option_map_or (λ m. lane_free m (take k ms)) (slice_get ms k) false
 
   -- no earlier waiting message has the same sender and receiver as the one at place k
   abbrev pub NoEarlier : List (Message C) → ℕ → Type 0

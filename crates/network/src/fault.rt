@@ -19,23 +19,23 @@ pub enum NetworkFault {
 }
 
 impl From<AllocError> for NetworkFault {
-    ghost from_gives = { λ e r. r ≡ NoMemory };
+    ghost from_gives = { λ _ fault. fault ≡ NoMemory };
 
-    fn from(_e: AllocError) -> NetworkFault {
-        NetworkFault::NoMemory
+    fn from(_error: AllocError) -> NetworkFault {
+        Self::NoMemory
     }
 }
 
-impl NetworkFault {
-    // The fault's line in the table of refusals.
-    pub fn refusal(&self) -> Refusal
-        ensures { result ≡ refusal_of self.now }
-    {
-        let (number, place) = match self {
-            Self::NoPlace(at) => (15, Place::Waiting(*at)),
-            Self::NotReady(at) => (16, Place::Waiting(*at)),
-            Self::Full => (17, Place::Zero),
-            Self::NoMemory => (0, Place::Zero),
+// The fault's line in the table of refusals.
+impl From<NetworkFault> for Refusal {
+    ghost from_gives = { λ fault refusal. refusal ≡ refusal_of fault };
+
+    fn from(fault: NetworkFault) -> Refusal {
+        let (number, place) = match fault {
+            NetworkFault::NoPlace(at) => (15, Place::Waiting(at)),
+            NetworkFault::NotReady(at) => (16, Place::Waiting(at)),
+            NetworkFault::Full => (17, Place::Zero),
+            NetworkFault::NoMemory => (0, Place::Zero),
         };
         Refusal {
             layer: Layer::Network,

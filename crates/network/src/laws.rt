@@ -1,5 +1,5 @@
 // The laws of networks, each as a contract. A law over whole runs stands on a function that does nothing.
-ghost use Rattle.std.specs.Prelude.{◌≡◌, ◌<◌, true, length, Decides};
+ghost use Rattle.std.specs.Prelude.{◌<◌, ◌↔◌, IsTrue, length};
 ghost use Rattle.network.specs.declared.message.Message.{Message as Sent};
 ghost use Rattle.network.specs.Lanes.{NoEarlier};
 ghost use Rattle.network.specs.Runs.{NothingLost, LanesKeepOrder};
@@ -16,14 +16,15 @@ use std::alloc::Global;
 
 // On the open bus every place of the list is ready.
 pub fn every_place_ready<C: Copy>(waiting: &[Message<C>], place: usize) -> bool
-    ensures { place < length waiting.now → result ≡ true }
+    ensures { place < length waiting.now → IsTrue result }
 {
     OpenBus::ready(waiting, place)
 }
 
 // On the lanes a place of the list is ready exactly if no earlier message has the same sender and receiver.
+#[tactic(auto, using(crate::proofs::Order::lane_order))]
 pub fn no_earlier_on_lane<C: Copy>(waiting: &[Message<C>], place: usize) -> bool
-    ensures { place < length waiting.now → Decides result (NoEarlier waiting.now place) }
+    ensures { place < length waiting.now → (IsTrue result ↔ NoEarlier waiting.now place) }
 {
     Lanes::ready(waiting, place)
 }
@@ -42,12 +43,14 @@ pub fn starts_empty<C: Copy, R: Readiness<C>>(
 
 // Over any calls of post and take, on every network: what was posted is what was taken and what
 // waits, and no more waits than the capacity.
+#[tactic(auto, using(crate::proofs::Runs::balanced, crate::proofs::Runs::within))]
 pub fn nothing_is_lost<C: Copy>()
     ensures { NothingLost (Sent C) }
 {}
 
 // Over any calls of post and take, on the lanes: messages from one board to another are taken in the
 // order of posting.
+#[tactic(auto, using(crate::proofs::Runs::lanes_keep_order))]
 pub fn lanes_keep_order<C: Copy>()
     ensures { LanesKeepOrder C }
 {}

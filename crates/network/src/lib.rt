@@ -8,5 +8,4 @@ pub mod message;
 pub mod network;
 pub mod open_bus;
 pub mod queue;
-pub mod queue_network;
 pub mod readiness;

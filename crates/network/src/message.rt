@@ -1,3 +1,6 @@
+ghost use Rattle.std.specs.Prelude.{◌≡◌};
+ghost use Rattle.network.specs.Lanes.{same_lane};
+
 // What a message asks or tells. The home of a block is the board that keeps its memory; the owner is
 // the board that was granted the writable copy.
 #[derive(Clone, Copy, PartialEq, Eq, Debug)]
@@ -28,7 +31,7 @@ pub enum MessageKind {
 
 // Blocks and boards are numbers from 0. The requester is the board whose request set the exchange off;
 // a write-back that no request set off names its sender.
-#[derive(Clone, Copy)]
+#[derive(Clone, Copy, PartialEq, Eq, Debug)]
 pub struct Message<C> {
     pub kind: MessageKind,
     pub block: usize,
@@ -36,4 +39,13 @@ pub struct Message<C> {
     pub receiver: usize,
     pub requester: usize,
     pub content: C,
+}
+
+impl<C: Copy> Message<C> {
+    // Whether both have the same sender and the same receiver.
+    pub fn shares_lane(&self, other: &Message<C>) -> bool
+        ensures { result ≡ same_lane self.now other.now }
+    {
+        self.sender == other.sender && self.receiver == other.receiver
+    }
 }
