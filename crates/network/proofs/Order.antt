@@ -13,11 +13,13 @@ module _ {C : Type 0} where
   off_lane m x = not (same_lane x m)
 
   module _ (ms : List (Message C)) (k : ℕ) (h : k < length ms) where
+    -- a search that finds none rules each earlier message out
     found : IsTrue (is_first_on_lane ms k) → NoEarlier ms k
     found t j x m lt ex em s r =
         let passes = AllPass-from_list_all (off_lane m) (take k ms) (rw em at t) j x (omega (arith, length-take k ms)) in
         grind (arith, nat_tests, get_or-take, get_or_from_slice_get)
 
+    -- and where each is ruled out it finds none
     free : (d : Message C) → NoEarlier ms k → IsTrue (is_first_on_lane ms k)
     free d n =
         let m = get_or ms k d in

@@ -22,10 +22,11 @@ module _ {M : Type 0} (cap : ℕ) (ready : List M → ℕ → Bool) where
   run_keeps P each [] t h = h
   run_keeps P each (c ∷ cs) t h = run_keeps P each cs (step cap ready t c) (each t c h)
 
+  -- a message is handed over only where one waits that is ready
   was_ready : (ms : List M) (k : ℕ) (m : M) → take_answer ready ms k ≡ Ok m → IsTrue (ready ms k) × (slice_get ms k ≡ Some m)
   was_ready ms k m e = grind (arith, nat_tests)
 
-  -- no more waits than can
+  -- a call lets no more wait than can
   room : (t : Traffic M) (c : Call M) → length t.waiting ≤ cap → length (step cap ready t c).waiting ≤ cap
   room t (post m) h = grind (arith, nat_tests, length-append)
   room t (take_at k) h = grind (arith, nat_tests, length-append, length-take, length-drop)
@@ -55,9 +56,11 @@ module _ {M : Type 0} (cap : ℕ) (ready : List M → ℕ → Bool) where
     along cs = run_keeps Kept kept cs nothing (joins [] [])
 
 module _ (M : Type 0) (cap : ℕ) (ready : List M → ℕ → Bool) (cs : List (Call M)) where
+  -- nothing is lost, doubled or made up
   pub balanced : Balanced (run cap ready nothing cs)
   balanced p = along cap ready (count_by p) ◌+◌ (λ a b c. omega arith) (sum_by-append (λ x. if p x then 1 else 0)) (λ ms k m _ _. omega arith) cs
 
+  -- no more waits than can
   pub within : length (run cap ready nothing cs).waiting ≤ cap
   within = run_keeps cap ready (λ t. length t.waiting ≤ cap) (room cap ready) cs nothing (omega arith)
 

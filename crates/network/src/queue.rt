@@ -69,7 +69,7 @@ impl<C: Copy, R: Readiness<C>> Network<C> for Queue<C, R> {
         Ok(R::ready(&self.items, place))
     }
 
-    // The trait's clauses again: the check does not yet give them to a method that takes a `Message<C>` by value.
+    // The trait's clauses again: the check does not yet give them where a `Message<C>` is passed by value.
     fn post(&mut self, message: Message<C>) -> Result<(), NetworkFault>
         ensures value { result ≡ post_answer (capacity_of self.old) (waiting_in self.old) }
         ensures after { waiting_in self.new ≡ post_after (capacity_of self.old) (waiting_in self.old) message }
