@@ -1,5 +1,5 @@
 -- Why a week of day rows is refused, and how that is said.
-use Rattle.std.specs.Prelude.{ℕ, cond, List, ◌++◌, codes, decimal, nat_lt}
+use Rattle.std.specs.Prelude.{ℕ, if◌then◌else◌, List, ◌++◌, codes, decimal, nat_lt}
 use Rattle.kinds.specs.declared.fault.ContentFault.{ContentFault}
 use Rattle.kinds.specs.Fault.{is_length}
 use Rattle.week.specs.declared.fault.CheckFault.{CheckFault}
@@ -9,10 +9,10 @@ use Rattle.week.specs.declared.reason.Reason.TheVariants.{BadHour, Short, Long, 
 
 -- a wrong length of a week of which n bytes were read: it ends too early, or goes on
 abbrev pub length_reason : ℕ → Reason
-length_reason n = cond (nat_lt n 42) (Short n) Long
+length_reason n = if nat_lt n 42 then Short n else Long
 
 abbrev pub day_reason : ContentFault → ℕ → Reason
-day_reason e n = cond (is_length e) (length_reason n) BadHour
+day_reason e n = if is_length e then length_reason n else BadHour
 
 abbrev pub reason_of : CheckFault → ℕ → Reason
 reason_of (Day e) n = day_reason e.fault n

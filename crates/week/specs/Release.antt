@@ -1,6 +1,6 @@
 -- What the release check says.
-use Rattle.std.specs.Prelude.{◌≡◌, ℕ, ◌*◌, List, length, Ok, Err, Option, Result, ◌≢◌}
-use Rattle.kinds.specs.declared.fault.ContentFault.{ContentFault}
+use Rattle.std.specs.Prelude.{◌≡◌, ℕ, ◌*◌, List, length, Ok, Err, Result, ◌≢◌}
+use Rattle.kinds.specs.declared.kind.Kind.{Ghosts as Kind}
 use Rattle.kinds.specs.declared.fault.ContentFault.TheVariants.{WrongLength}
 use Rattle.week.specs.declared.fault.CheckFault.{CheckFault}
 use Rattle.week.specs.declared.fault.CheckFault.TheVariants.{Day, Save}
@@ -13,15 +13,20 @@ use Rattle.week.specs.declared.verdict.Verdict.TheVariants.{MayLeave, Stays}
 -- the build may leave exactly if the two saves are equal
 abbrev pub Judges : List ℕ → List ℕ → Verdict → Type 0
 Judges first second MayLeave = first ≡ second
-Judges first second Stays = first ≡ second → ⊥
+Judges first second Stays = first ≢ second
 
 -- a week is refused for its first bad day, and an accepted one where a slice for a save is not as long as the week
-abbrev pub Refuses : {K : Type 0} → ℕ → (K → List ℕ) → (List ℕ → Option ContentFault) → List ℕ → List ℕ → List ℕ → CheckFault → Type 0
-Refuses width bytes fault bs first second (Day e) = Loads width bytes fault bs (Err e)
-Refuses {K} width bytes fault bs first second (Save e) =
-    ((week : Week K) × (week_bytes bytes week ≡ bs)) × (length first ≡ 7 * width → length second ≢ 7 * width) × (e ≡ WrongLength)
+abbrev pub Refuses : {K : Type 0} → Kind K → List ℕ → List ℕ → List ℕ → CheckFault → Type 0
+Refuses kind bs first second (Day e) = Loads kind bs (Err e)
+Refuses {K} kind bs first second (Save e) =
+    ((week : Week K) × (week_bytes kind.bytes week ≡ bs)) × (length first ≡ 7 * kind.width → length second ≢ 7 * kind.width) × (e ≡ WrongLength)
 
 -- an accepted week is saved twice as the bytes it was loaded from, and the build may leave; a refusal saves nothing
-abbrev pub Checks : {K : Type 0} → ℕ → (K → List ℕ) → (List ℕ → Option ContentFault) → List ℕ → List ℕ → List ℕ → List ℕ → List ℕ → Result (Checked K) CheckFault → Type 0
-Checks width bytes fault bs first second first' second' (Ok r) = (week_bytes bytes r.week ≡ bs) × (first' ≡ bs) × (second' ≡ bs) × (r.verdict ≡ MayLeave)
-Checks width bytes fault bs first second first' second' (Err e) = (first' ≡ first) × (second' ≡ second) × Refuses width bytes fault bs first second e
+abbrev pub Checks : {K : Type 0} → Kind K → List ℕ → List ℕ → List ℕ → List ℕ → List ℕ → Result (Checked K) CheckFault → Type 0
+Checks kind bs first second first' second' (Ok r) = (week_bytes kind.bytes r.week ≡ bs) × (first' ≡ bs) × (second' ≡ bs) × (r.verdict ≡ MayLeave)
+Checks kind bs first second first' second' (Err e) = (first' ≡ first) × (second' ≡ second) × Refuses kind bs first second e
+
+-- the status of a program that says a verdict
+abbrev pub status_of : Verdict → ℕ
+status_of MayLeave = 0
+status_of Stays = 1

@@ -1,5 +1,6 @@
 -- The words of the report: a day's line, an accepted week, a refused one, the verdict.
-use Rattle.std.specs.Prelude.{ℕ, List, [], ◌∷◌, ◌++◌, map, length, codes, decimal}
+use Rattle.std.specs.Prelude.{ℕ, List, ◌++◌, map, length, codes, decimal}
+use Rattle.std.specs.List.{flat_map, zip}
 use Rattle.refusal.specs.Text.{refusal_text}
 use Rattle.kinds.specs.declared.row.DayRow.{DayRow}
 use Rattle.kinds.specs.declared.row.HourMode.TheVariants.{Low, Comfort}
@@ -9,7 +10,6 @@ use Rattle.week.specs.declared.fault.CheckFault.{CheckFault}
 use Rattle.week.specs.declared.fault.CheckFault.TheVariants.{Day as DayFault, Save as SaveFault}
 use Rattle.week.specs.declared.verdict.Verdict.{Verdict}
 use Rattle.week.specs.declared.verdict.Verdict.TheVariants.{MayLeave, Stays}
-use Rattle.week.specs.declared.verdict.Checked.{Checked}
 use Rattle.week.specs.declared.week.Week.{Week}
 use Rattle.week.specs.Drawing.{sign_of, hours_in}
 use Rattle.week.specs.Fault.{refusal_of}
@@ -46,9 +46,7 @@ refused_text e n =
 
 -- a line for each day that has a row
 abbrev pub lines_text : List Day → List DayRow → List ℕ
-lines_text [] rows = []
-lines_text (day ∷ days) [] = []
-lines_text (day ∷ days) (row ∷ rows) = line_text day row ++ (codes "\n" ++ lines_text days rows)
+lines_text days rows = flat_map (λ p. line_text p.0 p.1 ++ codes "\n") (zip days rows)
 
 -- a week and its two saves, without a verdict
 abbrev pub saved_text : Week DayRow → List ℕ → List ℕ → List ℕ
@@ -56,9 +54,6 @@ saved_text week first second =
     codes "Hours from midnight: '.' off, '-' low, '#' comfort\n"
     ++ (lines_text week_days week.days ++ (codes "First save:  " ++ (decimal (length first) ++ (codes " bytes\nSecond save: " ++ (decimal (length second) ++ codes " bytes")))))
 
--- a week and its two saves
-abbrev pub accepted_text : Checked DayRow → List ℕ → List ℕ → List ℕ
-accepted_text checked first second =
-    codes "Hours from midnight: '.' off, '-' low, '#' comfort\n"
-    ++ (lines_text week_days checked.week.days
-    ++ (codes "First save:  " ++ (decimal (length first) ++ (codes " bytes\nSecond save: " ++ (decimal (length second) ++ (codes " bytes\n" ++ verdict_text checked.verdict))))))
+-- a week and its two saves, and the verdict on them
+abbrev pub accepted_text : Week DayRow → List ℕ → List ℕ → Verdict → List ℕ
+accepted_text week first second verdict = saved_text week first second ++ (codes "\n" ++ verdict_text verdict)

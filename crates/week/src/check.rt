@@ -13,7 +13,7 @@ pub fn check_week<K: Kind>(
     first: &mut [u8],
     second: &mut [u8],
 ) -> Result<Checked<K>, CheckFault>
-    ensures { Checks K.Kind.width K.Kind.bytes K.Kind.fault bytes.now first.old second.old first.new second.new result }
+    ensures { Checks K.Kind bytes.now first.old second.old first.new second.new result }
 {
     let week = Week::<K>::load(bytes)?;
     let size = 7 * K::width();

@@ -1,9 +1,10 @@
-ghost use Rattle.std.specs.Prelude.{◌≡◌, ◌<◌, slice_index_or};
-ghost use Rattle.week.specs.declared.day.Day.TheVariants.{Monday, Sunday};
+ghost use Rattle.std.specs.Prelude.{◌≡◌, ◌<◌, slice_index_or, Some};
+ghost use Rattle.week.specs.declared.day.Day.TheVariants.{Sunday};
 ghost use Rattle.week.specs.Report.{day_text};
 ghost use Rattle.week.specs.Week.{day_index, week_days};
 
 use kinds::fault::ContentFault;
+use std::fmt;
 
 #[derive(Clone, Copy, PartialEq, Eq, Debug)]
 pub enum Day {
@@ -24,35 +25,40 @@ pub struct RefusedDay {
 }
 
 impl Day {
-    // The day at a place of the week, Monday at 0.
-    pub(crate) fn at(i: usize) -> Day
-        requires { i < 7 }
-        ensures index { day_index result ≡ i }
-        ensures item { result ≡ slice_index_or week_days i Monday }
-    {
-        match i {
-            0 => Day::Monday,
-            1 => Day::Tuesday,
-            2 => Day::Wednesday,
-            3 => Day::Thursday,
-            4 => Day::Friday,
-            5 => Day::Saturday,
-            _ => Day::Sunday,
-        }
-    }
+    // The days of a week in order.
+    pub const ALL: [Day; 7] = [
+        Day::Monday,
+        Day::Tuesday,
+        Day::Wednesday,
+        Day::Thursday,
+        Day::Friday,
+        Day::Saturday,
+        Day::Sunday,
+    ];
 
     // The day at a place of the week, for numbers from outside: every place from 6 on is Sunday.
     pub fn at_or_last(i: usize) -> Day
         ensures index { i < 7 → day_index result ≡ i }
         ensures item { result ≡ slice_index_or week_days i Sunday }
     {
-        if i < 7 { Day::at(i) } else { Day::Sunday }
+        Day::ALL.get(i).copied().unwrap_or(Day::Sunday)
     }
+}
 
-    pub fn name(self) -> &'static str
-        ensures { result.now ≡ day_text self }
-    {
-        match self {
+// The day's place in the week, Monday at 0.
+impl From<Day> for usize {
+    ghost from_gives = { λ day i. i ≡ day_index day };
+
+    fn from(day: Day) -> usize {
+        day as usize
+    }
+}
+
+impl fmt::Display for Day {
+    ghost output = { λ day. Some (day_text day) };
+
+    fn fmt<W: fmt::Write>(&self, f: &mut fmt::Formatter<W>) -> fmt::Result {
+        f.write_str(match self {
             Day::Monday => "Monday",
             Day::Tuesday => "Tuesday",
             Day::Wednesday => "Wednesday",
@@ -60,6 +66,6 @@ impl Day {
             Day::Friday => "Friday",
             Day::Saturday => "Saturday",
             Day::Sunday => "Sunday",
-        }
+        })
     }
 }

@@ -1,5 +1,5 @@
-ghost use Rattle.std.specs.Prelude.{◌≡◌, map, if◌then◌else◌, Some};
-ghost use Rattle.week.specs.Drawing.{sign_of, same_mode, hours_in};
+ghost use Rattle.std.specs.Prelude.{◌≡◌, map, Some};
+ghost use Rattle.week.specs.Drawing.{sign_of, hours_in};
 
 use kinds::row::{DayRow, HourMode};
 use std::fmt;
@@ -15,22 +15,11 @@ pub fn sign(mode: HourMode) -> char
     }
 }
 
-// 1 for an hour that is in the mode, else 0.
-fn tally(hour: HourMode, mode: HourMode) -> usize
-    ensures { result ≡ (if same_mode hour mode then 1 else 0) }
-{
-    if hour.code() == mode.code() { 1 } else { 0 }
-}
-
 // How many hours of the day are in a mode.
 pub fn hours_in(row: &DayRow, mode: HourMode) -> usize
     ensures { result ≡ hours_in mode row.now.hours }
 {
-    let mut count = 0;
-    for i in 0..24 {
-        count += tally(row.hours[i], mode);
-    }
-    count
+    row.hours.iter().filter(|&&hour| hour == mode).count()
 }
 
 // A day as 24 characters, midnight first.
@@ -41,9 +30,8 @@ impl fmt::Display for Drawn<'_> {
     ghost output = { λ d. Some (map sign_of d.0.now.hours) };
 
     fn fmt<W: fmt::Write>(&self, f: &mut fmt::Formatter<W>) -> fmt::Result {
-        for i in 0..24 {
-            let drawn = sign(self.0.hours[i]);
-            write!(f, "{drawn}")?;
+        for &hour in &self.0.hours {
+            f.write_char(sign(hour))?;
         }
         Ok(())
     }

@@ -7,7 +7,7 @@ use kinds::fault::ContentFault;
 use refusal::Refusal;
 
 // Why a week was not checked: a day's bytes are refused, or a slice for a save is not as long as the week.
-#[derive(Clone, Copy)]
+#[derive(Clone, Copy, PartialEq, Eq, Debug)]
 pub enum CheckFault {
     Day(RefusedDay),
     Save(ContentFault),
@@ -39,11 +39,13 @@ impl CheckFault {
             CheckFault::Save(fault) => *fault,
         }
     }
+}
 
-    // The fault's line in the table of refusals, which is the kind's.
-    pub fn refusal(&self) -> Refusal
-        ensures { result ≡ refusal_of self.now }
-    {
-        self.content().refusal()
+// The fault's line in the table of refusals, which is the kind's.
+impl From<CheckFault> for Refusal {
+    ghost from_gives = { λ e r. r ≡ refusal_of e };
+
+    fn from(e: CheckFault) -> Refusal {
+        e.content().into()
     }
 }

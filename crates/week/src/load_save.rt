@@ -1,6 +1,6 @@
-ghost use Rattle.std.specs.Prelude.{◌≡◌, ◌*◌, ◌<◌, ◌≤◌};
+ghost use Rattle.std.specs.Prelude.{◌≡◌, ◌*◌, ◌≤◌};
 ghost use Rattle.kinds.specs.Kind.{Writes};
-ghost use Rattle.week.specs.Week.{day_part, week_bytes, LoadsDay, Loads};
+ghost use Rattle.week.specs.Week.{day_index, day_part, week_bytes, LoadsDay, Loads};
 
 use crate::day::{Day, RefusedDay};
 use crate::week::Week;
@@ -8,41 +8,32 @@ use kinds::fault::ContentFault;
 use kinds::kind::Kind;
 
 // What a day has of the week's bytes: the first six days a content each, Sunday all that is left.
-fn part(bytes: &[u8], width: usize, day: usize) -> &[u8]
-    requires { (width ≤ 64) × (day < 7) }
-    ensures { result.now ≡ day_part width bytes.now day }
+fn part<K: Kind>(bytes: &[u8], day: Day) -> &[u8]
+    ensures { result.now ≡ day_part K.Kind.width bytes.now (day_index day) }
 {
-    let from = bytes.len().min(day * width);
-    let rest = &bytes[from..];
-    if day < 6 {
-        &rest[0..rest.len().min(width)]
-    } else {
-        rest
+    let width = K::width();
+    let rest = bytes.get(usize::from(day) * width..).unwrap_or_default();
+    match day {
+        Day::Sunday => rest,
+        _ => rest.get(..width).unwrap_or(rest),
     }
 }
 
-fn load_day<K: Kind>(bytes: &[u8], at: usize) -> Result<K, RefusedDay>
-    requires { at < 7 }
-    ensures { LoadsDay K.Kind.bytes K.Kind.fault (day_part K.Kind.width bytes.now at) at result }
+fn load_day<K: Kind>(bytes: &[u8], day: Day) -> Result<K, RefusedDay>
+    ensures { LoadsDay K.Kind bytes.now day result }
 {
-    match K::read(part(bytes, K::width(), at)) {
-        Ok(content) => Ok(content),
-        Err(fault) => Err(RefusedDay {
-            day: Day::at(at),
-            fault,
-        }),
-    }
+    K::read(part::<K>(bytes, day)).map_err(|fault| RefusedDay { day, fault })
 }
 
 impl<K: Kind> Week<K> {
     // The week that the bytes stand for, or the first day that is refused.
     pub fn load(bytes: &[u8]) -> Result<Week<K>, RefusedDay>
-        ensures { Loads K.Kind.width K.Kind.bytes K.Kind.fault bytes.now result }
+        ensures { Loads K.Kind bytes.now result }
     {
-        let monday = load_day(bytes, 0)?;
-        let mut days = [monday; 7];
-        for i in 1..7 {
-            days[i] = load_day(bytes, i)?;
+        // `try_map` does not say that the day at which it stops is the first that is refused.
+        let mut days = [load_day(bytes, Day::Monday)?; 7];
+        for &day in &Day::ALL[1..] {
+            days[usize::from(day)] = load_day(bytes, day)?;
         }
         Ok(Week { days })
     }
@@ -55,9 +46,10 @@ impl<K: Kind> Week<K> {
         if to.len() != 7 * width {
             return Err(ContentFault::WrongLength);
         }
-        for i in 0..7 {
+        // By place: of what `chunks_exact_mut` lends, a proof knows no more than the length afterwards.
+        for (i, content) in self.days.iter().enumerate() {
             let from = i * width;
-            self.days[i].write(&mut to[from..from + width])?;
+            content.write(&mut to[from..from + width])?;
         }
         Ok(())
     }

@@ -1,5 +1,5 @@
 ghost use Rattle.std.specs.Prelude.{◌≡◌, Some};
-ghost use Rattle.week.specs.Reason.{day_reason, reason_of, reason_text};
+ghost use Rattle.week.specs.Reason.{reason_of, reason_text};
 
 use crate::fault::CheckFault;
 use kinds::fault::ContentFault;
@@ -21,24 +21,16 @@ pub enum Reason {
 // Seven day rows.
 pub const WEEK_BYTES: usize = 42;
 
-fn day_reason(fault: ContentFault, length: usize) -> Reason
-    ensures { result ≡ day_reason fault length }
-{
-    if !fault.is_length() {
-        Reason::BadHour
-    } else if length < WEEK_BYTES {
-        Reason::Short(length)
-    } else {
-        Reason::Long
-    }
-}
-
 // Why a week of day rows, of which so many bytes were read, is refused.
 pub fn reason_of(fault: CheckFault, length: usize) -> Reason
     ensures { result ≡ reason_of fault length }
 {
     match fault {
-        CheckFault::Day(refused) => day_reason(refused.fault, length),
+        CheckFault::Day(refused) => match refused.fault {
+            ContentFault::BadContent => Reason::BadHour,
+            ContentFault::WrongLength if length < WEEK_BYTES => Reason::Short(length),
+            ContentFault::WrongLength => Reason::Long,
+        },
         CheckFault::Save(_) => Reason::SaveLength,
     }
 }

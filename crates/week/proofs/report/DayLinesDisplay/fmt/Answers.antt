@@ -1,28 +1,19 @@
-use Rattle.std.proofs.Common.{◌≡◌, ◌++◌, get_or, take, is_ok, codes, sym, ap, ◌∙◌, arith}
-use Rattle.std.proofs.Output.{has_written_of_eq, has_written_append}
+use Rattle.std.proofs.Common.{◌++◌, length, codes, arith, rules}
+use Rattle.std.proofs.lemmas.Grind.{common_steps}
 use Rattle.std.proofs.lemmas.List.{take_all}
-use Rattle.week.specs.declared.day.Day.TheVariants.{Monday}
-use Rattle.week.specs.Report.{line_text, lines_text}
+use Rattle.std.proofs.lemmas.Slice.Zip.{zip_turn, zip_end, length-zip}
+use Rattle.week.specs.Report.{line_text}
 use Rattle.week.specs.Week.{week_days}
-use Rattle.week.proofs.Lines.{lines_more}
+use Rattle.week.proofs.Lines.{pairs_more}
 use Rattle.week.proofs.report.DayLinesDisplay.fmt.Goals as goal
 
-pub loop-i-preserved : goal.loop-i-preserved
-loop-i-preserved g c plain =
-    let p = c.loop-i.invariant plain in
-    let w = c.writeln.ensures.writes p.plain (ap is_ok c.in_ok-writeln.was) in
-    let days = c.args.self.now.0.now.days in
-    let i = c.loop-i.i in
-    let row = get_or days i c.index-self-i.result in
-    let here = ap (λ day. line_text day row ++ codes "\n") c.at.ensures.item in
-    let next = lines_more week_days days i Monday c.index-self-i.result (omega arith) (omega (arith, c.args.self.now.0.now.whole)) in
-    has_written_of_eq g.W.Write.write_str_gives c.args.f.now _ _ c.writeln.new.self (ap (λ line. lines_text (take i week_days) (take i days) ++ line) here ∙ sym next)
-    (has_written_append g.W.Write.write_str_gives c.args.f.now _ c.loop-i.f _ c.writeln.new.self p w)
+pub loop-day-preserved : goal.loop-day-preserved
+loop-day-preserved g c =
+    let turn = zip_turn week_days c.args.self.now.0.now.days _ c.into_iter-day-iterator.result _ c.next.new.self _ (search rules) (search rules) c.loop-day.yielded_by _ c.in-Some.is c.next.ensures.steps in
+    let more = pairs_more (λ p. line_text p.0 p.1 ++ codes "\n") week_days c.args.self.now.0.now.days (length c.loop-day.yielded) c.in-Some.field-0-0.now c.in-Some.row.now turn.0 turn.1 (turn.2 _) (turn.3 _) in
+    grind (arith, common_steps)
 
 pub returns-clause-writes : goal.returns-clause-writes
-returns-clause-writes g c plain ok =
-    let days = c.args.self.now.0.now.days in
-    let i = c.loop-i.i in
-    let all : lines_text (take i week_days) (take i days) ≡ lines_text week_days days =
-    ap (λ ds. lines_text ds (take i days)) (take_all i week_days (omega arith)) ∙ ap (lines_text week_days) (take_all i days (omega (arith, c.args.self.now.0.now.whole))) in
-    has_written_of_eq g.W.Write.write_str_gives c.args.f.now _ _ c.loop-i.f all (c.loop-i.invariant plain)
+returns-clause-writes g c =
+    let all = zip_end week_days c.args.self.now.0.now.days _ c.into_iter-day-iterator.result _ c.next.new.self _ (search rules) (search rules) c.loop-day.yielded_by c.in-None.is c.next.ensures.steps in
+    search (rules, take_all, length-zip)

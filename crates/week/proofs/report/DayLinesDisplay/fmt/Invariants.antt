@@ -1,9 +1,10 @@
-use Rattle.std.proofs.Common.{take}
+use Rattle.std.proofs.Common.{length, take, ◌++◌, codes}
 use Rattle.std.specs.Fmt.{IsPlainFormatter, HasWritten}
-use Rattle.week.specs.Report.{lines_text}
+use Rattle.std.specs.List.{flat_map, zip}
+use Rattle.week.specs.Report.{line_text}
 use Rattle.week.specs.Week.{week_days}
 use Rattle.week.proofs.report.DayLinesDisplay.fmt.Given as goal
 
 -- the lines of the days so far are written
-abbrev pub invariant-loop-i : goal.invariant-loop-i
-invariant-loop-i g l = IsPlainFormatter l.initial.f → HasWritten g.W.Write.write_str_gives l.initial.f (lines_text (take l.i week_days) (take l.i l.self.0.now.days)) l.f
+abbrev pub invariant-loop-day : goal.invariant-loop-day
+invariant-loop-day g l = IsPlainFormatter l.initial.f → HasWritten g.W.Write.write_str_gives l.initial.f (flat_map (λ p. line_text p.0 p.1 ++ codes "\n") (take (length l.yielded) (zip week_days l.self.0.now.days))) l.f
