@@ -1,5 +1,6 @@
 pub mod Fault
 pub mod Kind
+pub mod Law
 pub mod Row
 pub mod Valve
 pub mod Rows
