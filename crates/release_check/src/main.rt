@@ -7,7 +7,7 @@ use std::process::ExitCode;
 use std::{env, fs, io};
 use week::check::check_week;
 use week::reason::WEEK_BYTES;
-use week::report::{Accepted, Refused};
+use week::report::{Accepted, Refused, Saved};
 use week::verdict::Verdict;
 
 // One byte more than a week has, which is enough to see that a week is too long.
@@ -32,9 +32,12 @@ fn check(rt: &HostRuntime, bytes: &[u8]) -> io::Result<Verdict> {
     match check_week::<DayRow>(bytes, &mut first, &mut second) {
         Ok(checked) => {
             rt.println(Accepted {
-                checked: &checked,
-                first: &first,
-                second: &second,
+                saved: Saved {
+                    week: &checked.week,
+                    first: &first,
+                    second: &second,
+                },
+                verdict: checked.verdict,
             })?;
             Ok(checked.verdict)
         }
@@ -53,12 +56,9 @@ fn main(rt: HostRuntime) -> io::Result<ExitCode> {
         Ok(bytes) => check(&rt, bytes.as_slice())?,
         Err(e) => {
             println!(rt; "The week cannot be read: {e}")?;
-            rt.println(Verdict::Stays.words())?;
+            rt.println(Verdict::Stays)?;
             Verdict::Stays
         }
     };
-    match verdict {
-        Verdict::MayLeave => Ok(ExitCode::SUCCESS),
-        Verdict::Stays => Ok(ExitCode::FAILURE),
-    }
+    Ok(verdict.into())
 }

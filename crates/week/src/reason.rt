@@ -2,7 +2,6 @@ ghost use Rattle.std.specs.Prelude.{◌≡◌, Some};
 ghost use Rattle.week.specs.Reason.{reason_of, reason_text};
 
 use crate::fault::CheckFault;
-use kinds::fault::ContentFault;
 use std::fmt;
 
 // Why a week of day rows is refused.
@@ -26,11 +25,9 @@ pub fn reason_of(fault: CheckFault, length: usize) -> Reason
     ensures { result ≡ reason_of fault length }
 {
     match fault {
-        CheckFault::Day(refused) => match refused.fault {
-            ContentFault::BadContent => Reason::BadHour,
-            ContentFault::WrongLength if length < WEEK_BYTES => Reason::Short(length),
-            ContentFault::WrongLength => Reason::Long,
-        },
+        CheckFault::Day(refused) if !refused.fault.is_length() => Reason::BadHour,
+        CheckFault::Day(_) if length < WEEK_BYTES => Reason::Short(length),
+        CheckFault::Day(_) => Reason::Long,
         CheckFault::Save(_) => Reason::SaveLength,
     }
 }
