@@ -18,6 +18,7 @@ pub enum NetworkFault {
     NoMemory,
 }
 
+// By hand, as a derived conversion would not say which fault a `?` makes.
 impl From<AllocError> for NetworkFault {
     ghost from_gives = { λ _ fault. fault ≡ NoMemory };
 

@@ -13,6 +13,7 @@ use std::alloc::Global;
 #[derive(Drop)]
 pub struct Queue<C: Copy, R: Copy> {
     items: Vec<Message<C>>,
+    // kept beside the vector, whose own capacity may be more than was asked for
     capacity: u16,
     readiness: R,
     ghost few: { vec_len items ≤ capacity },

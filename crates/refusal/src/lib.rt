@@ -28,6 +28,7 @@ pub enum Place {
 #[derive(Clone, Copy, PartialEq, Eq, Debug)]
 pub struct Refusal {
     pub layer: Layer,
+    // as in the table that users look up, with its gaps; in code the case of a fault says which refusal it is
     pub number: u8,
     pub place: Place,
 }

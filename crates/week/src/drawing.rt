@@ -4,7 +4,8 @@ ghost use Rattle.week.specs.Drawing.{sign_of, hours_in};
 use kinds::row::{DayRow, HourMode};
 use std::fmt;
 
-// How an hour is drawn: a dot for off, a dash for low, a hash for comfort.
+// How an hour is drawn: a dot for off, a dash for low, a hash for comfort. A function, since neither
+// type is of this crate, and so no `From` can stand here.
 pub fn sign(mode: HourMode) -> char
     ensures { result ≡ sign_of mode }
 {

@@ -13,6 +13,7 @@ pub enum CheckFault {
     Save(ContentFault),
 }
 
+// Both by hand, as derived conversions would not say which fault a `?` makes.
 impl From<RefusedDay> for CheckFault {
     ghost from_gives = { λ e r. r ≡ DayFault e };
 
