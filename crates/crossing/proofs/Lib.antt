@@ -1,4 +1,3 @@
 pub mod Places
 pub mod Messages
 pub mod Arriving
-pub mod Days

@@ -1,20 +1,14 @@
 -- A week's messages, posted one at a time.
-use Rattle.std.proofs.Common.{◌≡◌, ℕ, zero, suc, ◌+◌, ◌<◌, ◌≤◌, List, [], ◌∷◌, ◌++◌, length, get_or, take, Ok, sym, refl, ap, ◌∙◌, add-one, arith, length-take-le, lt-ltb}
+use Rattle.std.proofs.Common.{◌≡◌, ℕ, suc, ◌+◌, ◌<◌, ◌≤◌, Bool, if◌then◌else◌, Some, None, List, [], ◌∷◌, ◌++◌, length, length-append, length-drop, get_or, drop, Ok, refl, ap, add-one, arith, append_assoc, drop-cons, lt-ltb}
+use Rattle.std.proofs.lemmas.Bool.Decides.{nat_tests}
+use Rattle.std.proofs.lemmas.Option.{slice_get_cases}
+use Rattle.std.specs.Result.{result_err}
+use Rattle.network.specs.declared.fault.NetworkFault.TheVariants.{NoPlace, NotReady, Full}
 use Rattle.network.specs.declared.message.Message.{Message}
-use Rattle.network.specs.Waiting.{if_accepted, post_answer, post_after}
+use Rattle.network.specs.Waiting.{post_answer, post_after, take_answer}
 use Rattle.crossing.specs.Crossing.{day_message, week_messages, contents}
 
 module _ {K : Type 0} where
-  more : (d : ℕ) (xs : List K) (i : ℕ) (x : K) → i < length xs → week_messages d (take (suc i) xs) ≡ week_messages d (take i xs) ++ day_message (d + i) (get_or xs i x) ∷ []
-  more d [] i x h = absurd (omega arith)
-  more d (y ∷ xs) zero x h = let here : d ≡ d + 0 = omega arith in ap (λ n. day_message n y ∷ []) here
-  more d (y ∷ xs) (suc i) x h =
-      let next : suc d + i ≡ d + suc i = omega arith in
-      ap (λ ms. day_message d y ∷ ms) (more (suc d) xs i x (omega arith) ∙ ap (λ n. week_messages (suc d) (take i xs) ++ day_message n (get_or xs i x) ∷ []) next)
-
-  week_more : (xs : List K) (i : ℕ) (x : K) → i < length xs → week_messages 0 (take (i + 1) xs) ≡ week_messages 0 (take i xs) ++ day_message i (get_or xs i x) ∷ []
-  week_more xs i x h = let here : 0 + i ≡ i = omega arith in rw add-one (more 0 xs i x h ∙ ap (λ n. week_messages 0 (take i xs) ++ day_message n (get_or xs i x) ∷ []) here)
-
   pub week_long : (d : ℕ) (xs : List K) → length (week_messages d xs) ≡ length xs
   week_long d [] = refl
   week_long d (x ∷ xs) = ap suc (week_long (suc d) xs)
@@ -23,11 +17,30 @@ module _ {K : Type 0} where
   week_contents d [] = refl
   week_contents d (x ∷ xs) = ap (λ ys. x ∷ ys) (week_contents (suc d) xs)
 
-  -- a day is posted behind those before it, where there is room for seven
-  pub day_posted : (cap : ℕ) (ms : List (Message K)) (xs : List K) (day : ℕ) (x : K) → ms ≡ week_messages 0 (take day xs) → length xs ≡ 7 → day < 7 → 7 ≤ cap
-      → (post_answer cap ms ≡ Ok tt) × (post_after cap ms (day_message day (get_or xs day x)) ≡ week_messages 0 (take (day + 1) xs))
-  day_posted cap ms xs day x e whole h fits =
-      let long : length ms ≡ day = ap length e ∙ week_long 0 (take day xs) ∙ length-take-le day xs (omega arith) in
-      let ok : post_answer cap ms ≡ Ok tt = simp (lt-ltb (length ms) cap (omega arith)) in
-      let m = day_message day (get_or xs day x) in
-      (ok, ap (λ answer. if_accepted answer (ms ++ m ∷ []) ms) ok ∙ ap (λ sent. sent ++ m ∷ []) e ∙ sym (week_more xs day x (omega arith)))
+  -- so many days of the week were posted: what waits, and the days to come, are the whole week
+  pub record Sending (days : List K) (day posted : ℕ) (waiting : List (Message K)) (room capacity : ℕ) : Type 0 where
+    pub counted : posted ≡ day
+    pub whole : waiting ++ week_messages day (drop day days) ≡ week_messages 0 days
+    pub fixed : capacity ≡ room
+
+  -- the next day is posted behind those before it, where there is room for seven
+  pub post_one : (days : List K) (day posted : ℕ) (waiting : List (Message K)) (room capacity : ℕ) (x : K) → length days ≡ 7 → 7 ≤ room → day < 7 → Sending days day posted waiting room capacity
+      → (post_answer capacity waiting ≡ Ok tt) × Sending days (day + 1) (posted + 1) (post_after capacity waiting (day_message day (get_or days day x))) room capacity
+  post_one days day posted waiting room capacity x seven fits more sent =
+      let long : length waiting ≡ day = omega (arith, ap length sent.whole, length-append waiting (week_messages day (drop day days)), week_long 0 days, week_long day (drop day days), length-drop day days) in
+      let ok : post_answer capacity waiting ≡ Ok tt = simp (lt-ltb (length waiting) capacity (omega (arith, sent.fixed))) in
+      let here : day < length days = omega arith in
+      let next : week_messages day (drop day days) ≡ day_message day (get_or days day x) ∷ week_messages (day + 1) (drop (day + 1) days) = rw (add-one, drop-cons days day x) refl in
+      (ok, record { counted = omega (arith, sent.counted); whole = rw (ok, append_assoc) (rw next at sent.whole); fixed = sent.fixed })
+
+  -- with all seven waiting, one more is refused, and so is the place behind the last
+  pub one_more : (days : List K) (capacity : ℕ) (waiting : List (Message K)) (m : Message K) → length days ≡ 7 → capacity ≡ 7 → waiting ≡ week_messages 0 days
+      → (result_err (post_answer capacity waiting) ≡ Some Full) × (post_after capacity waiting m ≡ week_messages 0 days)
+  one_more days capacity waiting m seven room sent = grind (arith, nat_tests, week_long)
+
+  pub place_behind : (ready : List (Message K) → ℕ → Bool) (days : List K) (k : ℕ) → length days ≡ 7 → k ≡ 7 → result_err (take_answer ready (week_messages 0 days) k) ≡ Some (NoPlace 7)
+  place_behind ready days k seven at = grind (arith, nat_tests, week_long)
+
+  pub last_place : (ready : List (Message K) → ℕ → Bool) (days : List K) → length days ≡ 7
+      → result_err (take_answer ready (week_messages 0 days) 6) ≡ if ready (week_messages 0 days) 6 then None else Some (NotReady 6)
+  last_place ready days seven = grind (arith, nat_tests, week_long, slice_get_cases)

@@ -1,52 +1,54 @@
 -- The place that is taken next is there and ready.
-use Rattle.std.proofs.Common.{◌≡◌, ℕ, zero, suc, ◌-◌, ◌<◌, ◌≤◌, Bool, true, false, cond, List, [], ◌∷◌, length, get_or, Ok, Err, Result, sym, refl, ap, ◌∙◌, arith}
-use Rattle.std.proofs.lemmas.Option.{slice_get-get_or}
-use Rattle.network.specs.declared.fault.NetworkFault.{NetworkFault}
-use Rattle.network.specs.Waiting.{Progress, take_answer}
-use Rattle.network.proofs.Takes.{taken}
+use Rattle.std.proofs.Common.{◌≡◌, ℕ, zero, suc, ◌-◌, ◌<◌, ◌≤◌, Bool, true, false, List, [], ◌∷◌, length, Some, None, Option, arith}
+use Rattle.std.specs.Option.{SomeIff, MatchOption}
+use Rattle.std.specs.List.{slice_get}
+use Rattle.std.specs.Result.{result_ok}
+use Rattle.std.proofs.lemmas.Bool.Decides.{nat_tests}
+use Rattle.std.proofs.lemmas.Option.{slice_get_cases}
+use Rattle.network.specs.Waiting.{Progress, take_answer, take_after, without}
 use Rattle.crossing.specs.declared.crossing.Order.{Order}
 use Rattle.crossing.specs.declared.crossing.Order.TheVariants.{OldestFirst, NewestFirst}
 use Rattle.crossing.specs.Crossing.{last_ready, next_place}
 
 module _ (ready : ℕ → Bool) where
-  pub last_step : (k : ℕ) → 0 < k → ready k ≡ false → last_ready ready (k - 1) ≡ last_ready ready k
-  last_step zero h e = absurd (omega arith)
-  last_step (suc k) h e =
-      let less : suc k - 1 ≡ k = omega arith in
-      ap (last_ready ready) less ∙ sym (ap (λ b. cond b (suc k) (last_ready ready k)) e)
+  -- a place that is ready, behind which none is
+  last_here : (k x : ℕ) → x ≤ k → ready x ≡ true → ((j : ℕ) → x < j → j < suc k → ready j ≡ false) → x ≡ last_ready ready k
+  last_here zero x within is behind = omega arith
+  last_here (suc k) x within is behind = grind (arith, last_here k x)
 
-  pub last_here : (k : ℕ) → ready k ≡ true → k ≡ last_ready ready k
-  last_here zero e = refl
-  last_here (suc k) e = sym (ap (λ b. cond b (suc k) (last_ready ready k)) e)
+  last_within : (k : ℕ) → last_ready ready k ≤ k
+  last_within zero = omega arith
+  last_within (suc k) = grind (arith, last_within k)
 
-  last_there : (k : ℕ) → ready 0 ≡ true → (last_ready ready k ≤ k) × (ready (last_ready ready k) ≡ true)
-  last_there zero e = (omega arith, e)
-  last_there (suc k) e = by (ready (suc k)) refl (last_there k e)
-    where
-      by : (b : Bool) → ready (suc k) ≡ b → (last_ready ready k ≤ k) × (ready (last_ready ready k) ≡ true)
-          → (cond b (suc k) (last_ready ready k) ≤ suc k) × (ready (cond b (suc k) (last_ready ready k)) ≡ true)
-      by true h below = (omega arith, h)
-      by false h below = (omega arith, below.1)
+  last_is_ready : (k : ℕ) → ready 0 ≡ true → ready (last_ready ready k) ≡ true
+  last_is_ready zero first = first
+  last_is_ready (suc k) first = grind (arith, last_is_ready k first)
+
+module _ {M : Type 0} (ready : List M → ℕ → Bool) where
+  pub next_within : (order : Order) (ms : List M) → 0 < length ms → next_place order ready ms < length ms
+  next_within OldestFirst ms some = some
+  next_within NewestFirst ms some = omega (arith, last_within (ready ms) (length ms - 1))
 
 module _ {M : Type 0} (ready : List M → ℕ → Bool) (law : Progress ready) where
   oldest : (ms : List M) → 0 < length ms → ready ms 0 ≡ true
   oldest [] h = absurd (omega arith)
   oldest (m ∷ ms) h = law m ms
 
-  next_there : (order : Order) (ms : List M) → 0 < length ms → (next_place order ready ms < length ms) × (ready ms (next_place order ready ms) ≡ true)
-  next_there OldestFirst ms h = (h, oldest ms h)
-  next_there NewestFirst ms h = let last = last_there (ready ms) (length ms - 1) (oldest ms h) in (omega arith, last.1)
+  -- what a search of the places finds, from the last one on
+  pub last_found : (ms : List M) (found : Option ℕ)
+      → ((j : ℕ) → MatchOption found (j < length ms → ready ms j ≡ false) (λ k. (k < length ms) × (ready ms k ≡ true) × (k < j → j < length ms → ready ms j ≡ false)))
+      → SomeIff found (0 < length ms) (last_ready (ready ms) (length ms - 1))
+  last_found ms None h = λ some. let is = oldest ms some in let not = h 0 some in cc
+  last_found ms (Some k) h = (omega (arith, (h 0).0), last_here (ready ms) (length ms - 1) k (omega (arith, (h 0).0)) (h 0).1 (λ j after within. (h j).2 after (omega (arith, (h 0).0))))
+
+  next_is_ready : (order : Order) (ms : List M) → 0 < length ms → ready ms (next_place order ready ms) ≡ true
+  next_is_ready OldestFirst ms some = oldest ms some
+  next_is_ready NewestFirst ms some = last_is_ready (ready ms) (length ms - 1) (oldest ms some)
 
   -- the law of networks in use: the next message is not refused
-  pub next_accepted : (order : Order) (ms : List M) (k : ℕ) (e : NetworkFault) → 0 < length ms → k ≡ next_place order ready ms → Err e ≡ take_answer ready ms k → ⊥
-  next_accepted order [] k e h at refused = absurd (omega arith)
-  next_accepted order (d ∷ ms) k e h at refused =
-      let there = next_there order (d ∷ ms) h in
-      let next = next_place order ready (d ∷ ms) in
-      let m = get_or (d ∷ ms) next d in
-      let answer : take_answer ready (d ∷ ms) next ≡ Ok m = taken ready (d ∷ ms) next m there.0 there.1 (slice_get-get_or (d ∷ ms) next d there.0) in
-      let same : Err e ≡ Ok m = refused ∙ ap (take_answer ready (d ∷ ms)) at ∙ answer in
-      apart e m same
+  pub next_taken : (order : Order) (ms : List M) (k : ℕ) → (0 < length ms) × (k ≡ next_place order ready ms)
+      → (result_ok (take_answer ready ms k) ≡ slice_get ms (next_place order ready ms)) × (take_after ready ms k ≡ without ms (next_place order ready ms))
+  next_taken order ms k next = rw next.1 (taken (next_place order ready ms) (next_within ready order ms next.0) (next_is_ready order ms next.0))
     where
-      apart : (e : NetworkFault) (m : M) → ◌≡◌ {A = Result M NetworkFault} (Err e) (Ok m) → ⊥
-      apart e m same = let z : ◌≡◌ {A = ℕ} 0 1 = cc in omega arith
+      taken : (k : ℕ) → k < length ms → ready ms k ≡ true → (result_ok (take_answer ready ms k) ≡ slice_get ms k) × (take_after ready ms k ≡ without ms k)
+      taken k within is = grind (arith, nat_tests, slice_get_cases)

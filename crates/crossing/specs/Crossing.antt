@@ -1,5 +1,5 @@
 -- A week's contents as messages, and the order in which they are taken off a network.
-use Rattle.std.specs.Prelude.{◌≡◌, ℕ, zero, suc, ◌+◌, ◌-◌, ◌%◌, Bool, true, cond, ◌&&◌, List, [], ◌∷◌, map, length, Some, None, Ok, Err, Option, Result}
+use Rattle.std.specs.Prelude.{◌≡◌, ℕ, zero, suc, ◌+◌, ◌-◌, ◌%◌, Bool, true, IsTrue, if◌then◌else◌, ◌&&◌, List, [], ◌∷◌, map, length, Some, None, Ok, Err, Option, Result}
 use Rattle.std.specs.List.{slice_get}
 use Rattle.network.specs.declared.fault.NetworkFault.{NetworkFault}
 use Rattle.network.specs.declared.fault.NetworkFault.TheVariants.{NoPlace, NotReady, Full, NoMemory}
@@ -34,7 +34,7 @@ module _ {K : Type 0} where
 -- the last ready place up to place k, or place 0
 abbrev pub last_ready : (ℕ → Bool) → ℕ → ℕ
 last_ready ready zero = 0
-last_ready ready (suc k) = cond (ready (suc k)) (suc k) (last_ready ready k)
+last_ready ready (suc k) = if ready (suc k) then suc k else last_ready ready k
 
 module _ {M : Type 0} where
   abbrev pub next_place : Order → (List M → ℕ → Bool) → List M → ℕ
@@ -50,13 +50,13 @@ module _ {K : Type 0} where
 -- what is seen of a week with these days that crosses a network for seven messages
 pub record Crosses {K : Type 0} (order : Order) (ready : List (Message K) → ℕ → Bool) (days : List K) (c : Crossing K) : Type 0 where
   pub same : c.arrived.days ≡ days
-  pub seen_same : c.equal ≡ true
+  pub seen_same : IsTrue c.equal
   pub sequence : c.sequence ≡ arrivals order ready (length days) (week_messages 0 days)
   pub posted : c.posted ≡ 7
   pub taken : c.taken ≡ 7
   pub full : c.full ≡ Some Full
   pub missing : c.missing ≡ Some (NoPlace 7)
-  pub held : c.held ≡ cond (ready (week_messages 0 days) 6) None (Some (NotReady 6))
+  pub held : c.held ≡ (if ready (week_messages 0 days) 6 then None else Some (NotReady 6))
 
 -- a network is refused only for want of memory
 abbrev pub CrossesOr : {K : Type 0} → Order → (List (Message K) → ℕ → Bool) → List K → Result (Crossing K) NetworkFault → Type 0
@@ -70,4 +70,4 @@ CrossesAll days (Err e) = e ≡ NoMemory
 
 -- a build whose week did not arrive equal each time stays
 abbrev pub verdict_after : {K : Type 0} → Verdict → Crossings K → Verdict
-verdict_after saves c = cond (c.straight.equal && (c.mixed.equal && c.turned.equal)) saves Stays
+verdict_after saves c = if c.straight.equal && (c.mixed.equal && c.turned.equal) then saves else Stays

@@ -1,5 +1,6 @@
 -- What was seen of a week that crossed a network, as it is printed.
-use Rattle.std.specs.Prelude.{ℕ, Bool, true, false, List, [], ◌∷◌, ◌++◌, Some, None, codes, decimal, Option, slice_index_or}
+use Rattle.std.specs.Prelude.{ℕ, Bool, true, false, List, ◌++◌, Some, None, codes, decimal, Option, slice_index_or}
+use Rattle.std.specs.List.{flat_map}
 use Rattle.refusal.specs.Text.{refusal_text}
 use Rattle.network.specs.declared.fault.NetworkFault.{NetworkFault}
 use Rattle.network.specs.Fault.{refusal_of}
@@ -28,8 +29,7 @@ tried_text None otherwise = otherwise
 tried_text (Some e) otherwise = codes "refused, " ++ refusal_text (refusal_of e)
 
 abbrev pub days_text : List ℕ → List ℕ
-days_text [] = []
-days_text (d ∷ ds) = codes " " ++ (day_text (slice_index_or week_days d Sunday) ++ days_text ds)
+days_text ds = flat_map (λ d. codes " " ++ day_text (slice_index_or week_days d Sunday)) ds
 
 module _ {K : Type 0} where
   abbrev pub refusals_text : Crossing K → List ℕ

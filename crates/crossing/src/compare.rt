@@ -1,34 +1,25 @@
-ghost use Rattle.std.specs.Prelude.{◌≡◌, length, Decides};
+ghost use Rattle.std.specs.Prelude.{◌≡◌, ◌↔◌, length, IsTrue};
 
 use kinds::kind::Kind;
 use week::compare::alike;
 use week::week::Week;
 
-// Compares two contents by the bytes that they are written as.
-fn written_alike<K: Kind>(a: &K, b: &K, first: &mut [u8], second: &mut [u8]) -> bool
-    requires { (length first.old ≡ K.Kind.width) × (length second.old ≡ K.Kind.width) }
-    ensures { Decides result (a.now ≡ b.now) }
-{
-    a.write(first).is_ok() && b.write(second).is_ok() && alike(first, second)
-}
-
+// Whether two contents are written as the same bytes: a kind need not be comparable, and no two
+// contents of one are written alike. The memory is on the stack, since a comparison can't fail.
 fn same<K: Kind>(a: &K, b: &K) -> bool
-    ensures { Decides result (a.now ≡ b.now) }
+    ensures { IsTrue result ↔ (a.now ≡ b.now) }
 {
     let width = K::width();
     let mut first = [0u8; 64];
     let mut second = [0u8; 64];
-    written_alike(a, b, &mut first[0..width], &mut second[0..width])
+    let first = &mut first[0..width];
+    let second = &mut second[0..width];
+    a.write(first).is_ok() && b.write(second).is_ok() && alike(first, second)
 }
 
 // Whether two weeks are equal on every day.
 pub fn same_week<K: Kind>(a: &Week<K>, b: &Week<K>) -> bool
-    ensures { Decides result (a.now.days ≡ b.now.days) }
+    ensures { IsTrue result ↔ (a.now.days ≡ b.now.days) }
 {
-    for day in 0..7 {
-        if !same(&a.days[day], &b.days[day]) {
-            return false;
-        }
-    }
-    true
+    a.days.iter().zip(&b.days).all(|(a, b)| same(a, b))
 }

@@ -1,15 +1,15 @@
-ghost use Rattle.std.specs.Prelude.{◌≡◌, ◌<◌, [], length, if◌then◌else◌, Some, None};
-ghost use Rattle.network.specs.declared.fault.NetworkFault.TheVariants.{NoPlace, NotReady, Full};
+ghost use Rattle.std.specs.Prelude.{◌≡◌, []};
+ghost use Rattle.std.specs.Result.{result_err};
+ghost use Rattle.network.specs.Waiting.{take_answer};
 ghost use Rattle.crossing.specs.Crossing.{Crosses, CrossesOr, CrossesAll, verdict_after};
 
 use crate::compare::same_week;
 use crate::crossing::{Crossing, Crossings, Order};
-use crate::receive::{ready_at, receive};
+use crate::receive::receive;
 use crate::send::{day_message, send};
 use kinds::kind::Kind;
 use network::fault::NetworkFault;
 use network::lanes::Lanes;
-use network::message::Message;
 use network::network::Network;
 use network::open_bus::OpenBus;
 use network::queue::Queue;
@@ -18,47 +18,29 @@ use std::alloc::Global;
 use week::verdict::Verdict;
 use week::week::Week;
 
-// What posting to a full network gives.
-fn try_full<K: Copy, N: Network<K>>(network: &mut N, message: Message<K>) -> Option<NetworkFault>
-    requires { length (N.Network.waiting network.old) ≡ N.Network.capacity network.old }
-    ensures value { result ≡ Some Full }
+// What taking this place gives where it is refused. A message that is ready stays.
+fn try_taking<K: Copy, N: Network<K>>(network: &mut N, place: usize) -> Option<NetworkFault>
+    ensures value { result ≡ result_err (take_answer N.Network.ready (N.Network.waiting network.old) place) }
     ensures after { N.Network.waiting network.new ≡ N.Network.waiting network.old }
 {
-    network.post(message).err()
-}
-
-// What taking the place behind the last gives.
-fn try_missing<K: Copy, N: Network<K>>(network: &mut N) -> Option<NetworkFault>
-    ensures value { result ≡ Some (NoPlace (length (N.Network.waiting network.old))) }
-    ensures after { N.Network.waiting network.new ≡ N.Network.waiting network.old }
-{
-    network.take(network.count()).err()
-}
-
-// What taking a message gives that is not ready; one that is ready stays.
-fn try_held<K: Copy, N: Network<K>>(network: &mut N, place: usize) -> Option<NetworkFault>
-    requires { place < length (N.Network.waiting network.old) }
-    ensures value { result ≡ (if N.Network.ready (N.Network.waiting network.old) place then None else Some (NotReady place)) }
-    ensures after { N.Network.waiting network.new ≡ N.Network.waiting network.old }
-{
-    if ready_at(network, place) {
-        None
-    } else {
-        network.take(place).err()
+    match network.is_ready(place) {
+        Ok(true) => None,
+        _ => network.take(place).err(),
     }
 }
 
 // Sends the week over an empty network that holds seven messages, tries what must be refused, and
 // takes all messages off it again.
 fn cross_over<K: Kind, N: Network<K>>(network: &mut N, week: &Week<K>, order: Order) -> Crossing<K>
-    requires { (N.Network.waiting network.old ≡ []) × (N.Network.capacity network.old ≡ 7) }
+    requires empty { N.Network.waiting network.old ≡ [] }
+    requires room { N.Network.capacity network.old ≡ 7 }
     ensures { Crosses order N.Network.ready week.now.days result }
 {
     let posted = send(network, week);
     let monday = week.days[0];
-    let full = try_full(network, day_message(0, monday));
-    let missing = try_missing(network);
-    let held = try_held(network, 6);
+    let full = network.post(day_message(0, monday)).err();
+    let missing = try_taking(network, posted);
+    let held = try_taking(network, 6);
     let (days, sequence) = receive(network, order, monday);
     let arrived = Week { days };
     Crossing {

@@ -1,5 +1,6 @@
-ghost use Rattle.std.specs.Prelude.{◌≡◌, ◌-◌, ◌<◌, [], length, Some, slice_set};
+ghost use Rattle.std.specs.Prelude.{◌≡◌, ◌-◌, ◌<◌, [], length, slice_set};
 ghost use Rattle.std.specs.List.{slice_get};
+ghost use Rattle.std.specs.Option.{SomeIff};
 ghost use Rattle.network.specs.Waiting.{without};
 ghost use Rattle.crossing.specs.Crossing.{week_messages, contents, last_ready, next_place, arrivals};
 
@@ -7,47 +8,33 @@ use crate::crossing::Order;
 use network::message::Message;
 use network::network::Network;
 
-pub(crate) fn ready_at<K: Copy, N: Network<K>>(network: &N, place: usize) -> bool
-    requires { place < length (N.Network.waiting network.now) }
-    ensures { result ≡ N.Network.ready (N.Network.waiting network.now) place }
+// The last place that is ready. While anything waits there is one, by the law of networks.
+fn last_ready<K: Copy, N: Network<K>>(network: &N) -> Option<usize>
+    ensures { SomeIff result (0 < length (N.Network.waiting network.now)) (last_ready (N.Network.ready (N.Network.waiting network.now)) (length (N.Network.waiting network.now) - 1)) }
 {
-    network.is_ready(place).unwrap_or(false)
+    (0..network.count()).rfind(|&place| network.is_ready(place).unwrap_or(false))
 }
 
-fn last_ready<K: Copy, N: Network<K>>(network: &N) -> usize
-    requires { 0 < length (N.Network.waiting network.now) }
-    ensures { result ≡ last_ready (N.Network.ready (N.Network.waiting network.now)) (length (N.Network.waiting network.now) - 1) }
-{
-    let mut place = network.count() - 1;
-    while place > 0 && !ready_at(network, place) {
-        place -= 1;
-    }
-    place
-}
-
-fn next_place<K: Copy, N: Network<K>>(network: &N, order: Order) -> usize
-    requires { 0 < length (N.Network.waiting network.now) }
-    ensures { result ≡ next_place order N.Network.ready (N.Network.waiting network.now) }
+// The place that is taken next, while anything waits.
+fn next_place<K: Copy, N: Network<K>>(network: &N, order: Order) -> Option<usize>
+    ensures { SomeIff result (0 < length (N.Network.waiting network.now)) (next_place order N.Network.ready (N.Network.waiting network.now)) }
 {
     match order {
-        Order::OldestFirst => 0,
+        Order::OldestFirst => (0..network.count()).next(),
         Order::NewestFirst => last_ready(network),
     }
 }
 
-// The law of networks says that this is never refused.
-fn take_next<K: Copy, N: Network<K>>(network: &mut N, order: Order) -> Message<K>
-    requires { 0 < length (N.Network.waiting network.old) }
-    ensures value { slice_get (N.Network.waiting network.old) (next_place order N.Network.ready (N.Network.waiting network.old)) ≡ Some result }
+// The message that is taken next, while any waits. The law of networks says that it is not refused.
+fn take_next<K: Copy, N: Network<K>>(network: &mut N, order: Order) -> Option<Message<K>>
+    ensures value { result ≡ slice_get (N.Network.waiting network.old) (next_place order N.Network.ready (N.Network.waiting network.old)) }
     ensures after { N.Network.waiting network.new ≡ without (N.Network.waiting network.old) (next_place order N.Network.ready (N.Network.waiting network.old)) }
 {
-    match network.take(next_place(network, order)) {
-        Ok(message) => message,
-        Err(_) => unreachable(),
-    }
+    network.take(next_place(network, order)?).ok()
 }
 
-// Puts a message's content at its day.
+// Puts a message's content at its day. It is a function of its own, since only behind a reference is
+// an array of any content known to be of a size that can be indexed.
 fn put<K: Copy>(days: &mut [K; 7], message: &Message<K>)
     requires { message.now.block < 7 }
     ensures { days.new ≡ slice_set days.old message.now.block message.now.content }
@@ -62,17 +49,19 @@ pub(crate) fn receive<K: Copy, N: Network<K>>(
     order: Order,
     blank: K,
 ) -> ([K; 7], [usize; 7])
-    requires { (length (N.Network.waiting network.old) ≡ 7) × (N.Network.waiting network.old ≡ week_messages 0 (contents (N.Network.waiting network.old))) }
+    requires seven { length (N.Network.waiting network.old) ≡ 7 }
+    requires sent { N.Network.waiting network.old ≡ week_messages 0 (contents (N.Network.waiting network.old)) }
     ensures days { result.0 ≡ contents (N.Network.waiting network.old) }
     ensures order { result.1 ≡ arrivals order N.Network.ready (length (N.Network.waiting network.old)) (N.Network.waiting network.old) }
     ensures after { N.Network.waiting network.new ≡ [] }
 {
     let mut days = [blank; 7];
-    let mut taken = [0; 7];
-    for i in 0..7 {
-        let message = take_next(network, order);
-        put(&mut days, &message);
-        taken[i] = message.block;
+    let mut sequence = [0; 7];
+    for taken in &mut sequence {
+        if let Some(message) = take_next(network, order) {
+            put(&mut days, &message);
+            *taken = message.block;
+        }
     }
-    (days, taken)
+    (days, sequence)
 }

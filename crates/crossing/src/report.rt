@@ -1,4 +1,4 @@
-ghost use Rattle.std.specs.Prelude.{◌≡◌, Some};
+ghost use Rattle.std.specs.Prelude.{Some};
 ghost use Rattle.crossing.specs.Report.{order_text, equal_text, tried_text, days_text, refusals_text, counts_text, crossing_text, report_text};
 
 use crate::crossing::{Crossing, Crossings, Order};
@@ -8,26 +8,15 @@ use std::fmt;
 use week::day::Day;
 use week::report::Saved;
 use week::verdict::Verdict;
-use week::week::Week;
 
-impl Order {
-    pub fn words(self) -> &'static str
-        ensures { result.now ≡ order_text self }
-    {
-        match self {
+impl fmt::Display for Order {
+    ghost output = { λ o. Some (order_text o) };
+
+    fn fmt<W: fmt::Write>(&self, f: &mut fmt::Formatter<W>) -> fmt::Result {
+        f.write_str(match self {
             Order::OldestFirst => "oldest first",
             Order::NewestFirst => "newest first",
-        }
-    }
-}
-
-fn equal_words(equal: bool) -> &'static str
-    ensures { result.now ≡ equal_text equal }
-{
-    if equal {
-        "arrived equal"
-    } else {
-        "did not arrive equal"
+        })
     }
 }
 
@@ -43,14 +32,8 @@ impl fmt::Display for Tried {
 
     fn fmt<W: fmt::Write>(&self, f: &mut fmt::Formatter<W>) -> fmt::Result {
         match self.fault {
-            Some(fault) => {
-                let refusal = fault.refusal();
-                write!(f, "refused, {refusal}")
-            }
-            None => {
-                let otherwise = self.otherwise;
-                write!(f, "{otherwise}")
-            }
+            Some(fault) => write!(f, "refused, {}", fault.refusal()),
+            None => f.write_str(self.otherwise),
         }
     }
 }
@@ -64,8 +47,7 @@ impl fmt::Display for Days<'_> {
 
     fn fmt<W: fmt::Write>(&self, f: &mut fmt::Formatter<W>) -> fmt::Result {
         for day in self.0 {
-            let name = Day::at_or_last(*day).name();
-            write!(f, " {name}")?;
+            write!(f, " {}", Day::at_or_last(*day).name())?;
         }
         Ok(())
     }
@@ -79,22 +61,38 @@ impl<K> fmt::Display for Refusals<'_, K> {
     ghost output = { λ r. Some (refusals_text r.0.now) };
 
     fn fmt<W: fmt::Write>(&self, f: &mut fmt::Formatter<W>) -> fmt::Result {
-        let full = Tried {
-            fault: self.0.full,
-            otherwise: "accepted",
-        };
-        let missing = Tried {
-            fault: self.0.missing,
-            otherwise: "accepted",
-        };
-        let held = Tried {
-            fault: self.0.held,
-            otherwise: "ready",
-        };
         write!(
             f,
-            "  One more: {full}\n  A place behind the last: {missing}\n  The last place first: {held}"
+            "  One more: {}\n  A place behind the last: {}\n  The last place first: {}",
+            Tried {
+                fault: self.0.full,
+                otherwise: "accepted"
+            },
+            Tried {
+                fault: self.0.missing,
+                otherwise: "accepted"
+            },
+            Tried {
+                fault: self.0.held,
+                otherwise: "ready"
+            },
         )
+    }
+}
+
+// Whether a week arrived equal, in words.
+#[derive(Clone, Copy)]
+struct Arrived(bool);
+
+impl fmt::Display for Arrived {
+    ghost output = { λ a. Some (equal_text a.0) };
+
+    fn fmt<W: fmt::Write>(&self, f: &mut fmt::Formatter<W>) -> fmt::Result {
+        if self.0 {
+            f.write_str("arrived equal")
+        } else {
+            f.write_str("did not arrive equal")
+        }
     }
 }
 
@@ -106,10 +104,13 @@ impl<K> fmt::Display for Counts<'_, K> {
     ghost output = { λ c. Some (counts_text c.0.now) };
 
     fn fmt<W: fmt::Write>(&self, f: &mut fmt::Formatter<W>) -> fmt::Result {
-        let posted = self.0.posted;
-        let taken = self.0.taken;
-        let equal = equal_words(self.0.equal);
-        write!(f, "{posted} rows posted, {taken} taken, {equal}")
+        write!(
+            f,
+            "{} rows posted, {} taken, {}",
+            self.0.posted,
+            self.0.taken,
+            Arrived(self.0.equal)
+        )
     }
 }
 
@@ -125,14 +126,14 @@ impl<K> fmt::Display for Seen<'_, K> {
     ghost output = { λ s. Some (crossing_text s.network.now s.order s.crossing.now) };
 
     fn fmt<W: fmt::Write>(&self, f: &mut fmt::Formatter<W>) -> fmt::Result {
-        let network = self.network;
-        let order = self.order.words();
-        let counts = Counts(self.crossing);
-        let days = Days(&self.crossing.sequence);
-        let refusals = Refusals(self.crossing);
         write!(
             f,
-            "Over the {network}, {order}: {counts}\n  Taken:{days}\n{refusals}"
+            "Over the {}, {}: {}\n  Taken:{}\n{}",
+            self.network,
+            self.order,
+            Counts(self.crossing),
+            Days(&self.crossing.sequence),
+            Refusals(self.crossing),
         )
     }
 }
@@ -140,23 +141,16 @@ impl<K> fmt::Display for Seen<'_, K> {
 // The report on a week that was accepted and saved twice.
 #[derive(Clone, Copy)]
 pub struct Report<'a> {
-    pub week: &'a Week<DayRow>,
-    pub first: &'a [u8],
-    pub second: &'a [u8],
+    pub saved: Saved<'a>,
     pub crossings: &'a Crossings<DayRow>,
     // the verdict on the saves
     pub saves: Verdict,
 }
 
 impl fmt::Display for Report<'_> {
-    ghost output = { λ r. Some (report_text r.week.now r.first.now r.second.now r.crossings.now r.saves) };
+    ghost output = { λ r. Some (report_text r.saved.week.now r.saved.first.now r.saved.second.now r.crossings.now r.saves) };
 
     fn fmt<W: fmt::Write>(&self, f: &mut fmt::Formatter<W>) -> fmt::Result {
-        let saved = Saved {
-            week: self.week,
-            first: self.first,
-            second: self.second,
-        };
         let straight = Seen {
             network: "lanes",
             order: Order::OldestFirst,
@@ -173,6 +167,10 @@ impl fmt::Display for Report<'_> {
             crossing: &self.crossings.turned,
         };
         let verdict = self.crossings.verdict(self.saves).words();
-        write!(f, "{saved}\n{straight}\n{mixed}\n{turned}\n{verdict}")
+        write!(
+            f,
+            "{}\n{straight}\n{mixed}\n{turned}\n{verdict}",
+            self.saved
+        )
     }
 }

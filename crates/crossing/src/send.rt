@@ -22,14 +22,15 @@ pub(crate) fn day_message<K: Copy>(day: usize, content: K) -> Message<K>
 
 // Posts the seven days, and answers how many were accepted.
 pub(crate) fn send<K: Copy, N: Network<K>>(network: &mut N, week: &Week<K>) -> usize
-    requires { (N.Network.waiting network.old ≡ []) × (7 ≤ N.Network.capacity network.old) }
+    requires empty { N.Network.waiting network.old ≡ [] }
+    requires room { 7 ≤ N.Network.capacity network.old }
     ensures value { result ≡ 7 }
     ensures after { N.Network.waiting network.new ≡ week_messages 0 week.now.days }
     ensures fixed { N.Network.capacity network.new ≡ N.Network.capacity network.old }
 {
     let mut posted = 0;
-    for day in 0..7 {
-        if network.post(day_message(day, week.days[day])).is_ok() {
+    for (day, content) in week.days.iter().enumerate() {
+        if network.post(day_message(day, *content)).is_ok() {
             posted += 1;
         }
     }

@@ -1,15 +1,14 @@
-use Rattle.std.proofs.Common.{sym, ◌∙◌, arith}
-use Rattle.crossing.proofs.Places.{last_step, last_here}
+use Rattle.std.proofs.Common.{rules, ◌≡◌, ◌<◌, ℕ, List, length, get_or, [], refl, true, false}
+use Rattle.std.proofs.iter.runs.Sources.{ranges}
+use Rattle.std.specs.Option.{MatchOption}
+use Rattle.crossing.proofs.Places.{last_found}
 use Rattle.crossing.proofs.receive.last_ready.Goals as goal
 
-pub loop-place-preserved : goal.loop-place-preserved
-loop-place-preserved g c =
-    let ready = g.N.Network.ready (g.N.Network.waiting c.args.network.now) in
-    let h = c.if-not-ready_at.ensures in
-    (omega arith, last_step ready c.loop-place.place (omega arith) (sym h) ∙ c.loop-place.invariant.1)
-
-pub returns-else-not-ready_at : goal.returns-else-not-ready_at
-returns-else-not-ready_at g c =
-    let ready = g.N.Network.ready (g.N.Network.waiting c.args.network.now) in
-    let h = c.if-not-ready_at.ensures in
-    last_here ready c.loop-place.place (sym h) ∙ c.loop-place.invariant.1
+pub returns : goal.returns
+returns g c =
+    let ms = g.N.Network.waiting c.args.network.now in
+    let ready = g.N.Network.ready ms in
+    -- the read of a list says at which place `ranges` is to look
+    let found : (ks : List ℕ) (j : ℕ) → get_or ks j 0 ≡ get_or ks j 0 → MatchOption c.rfind.result (j < length ms → ready j ≡ false) (λ k. (k < length ms) × (ready k ≡ true) × (k < j → j < length ms → ready j ≡ false)) =
+    search (rules, ranges) in
+    last_found g.N.Network.ready g.met.N.Network.progress ms c.rfind.result (λ j. found [] j refl)
