@@ -4,16 +4,16 @@ use kinds::kind::Kind;
 use week::compare::alike;
 use week::week::Week;
 
-// Whether two contents are written as the same bytes: a kind need not be comparable, and no two
-// contents of one are written alike. The memory is on the stack, since a comparison can't fail.
+// Whether two contents are written alike, which is to be equal: a kind need not have an `==`. The
+// buffers are as long as any kind is wide, since a `Vec` of its width could fail for want of memory.
 fn same<K: Kind>(a: &K, b: &K) -> bool
     ensures { IsTrue result ↔ (a.now ≡ b.now) }
 {
     let width = K::width();
     let mut first = [0u8; 64];
     let mut second = [0u8; 64];
-    let first = &mut first[0..width];
-    let second = &mut second[0..width];
+    let first = &mut first[..width];
+    let second = &mut second[..width];
     a.write(first).is_ok() && b.write(second).is_ok() && alike(first, second)
 }
 

@@ -20,7 +20,7 @@ fn next_place<K: Copy, N: Network<K>>(network: &N, order: Order) -> Option<usize
     ensures { SomeIff result (0 < length (N.Network.waiting network.now)) (next_place order N.Network.ready (N.Network.waiting network.now)) }
 {
     match order {
-        Order::OldestFirst => (0..network.count()).next(),
+        Order::OldestFirst => (network.count() > 0).then_some(0),
         Order::NewestFirst => last_ready(network),
     }
 }
