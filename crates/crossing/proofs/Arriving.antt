@@ -3,8 +3,8 @@ use Rattle.std.proofs.Common.{◌≡◌, ℕ, zero, suc, ◌+◌, ◌<◌, ◌�
 use Rattle.std.proofs.lemmas.List.{length-map, set_comm, take_all, take_more_set}
 use Rattle.std.proofs.Math.Seq.{take-suc-set}
 use Rattle.std.proofs.lemmas.List.Edits.{length-remove}
-use Rattle.std.proofs.lemmas.Option.{none-some, same_Some, slice_get_within, slice_get-get_or}
-use Rattle.std.specs.List.{slice_get, remove}
+use Rattle.std.proofs.lemmas.Option.{none-some, same_Some, slice_get_within, slice_get-get_or, slice_get_cases}
+use Rattle.std.specs.List.{slice_get}
 use Rattle.network.specs.declared.message.Message.{Message}
 use Rattle.network.specs.Waiting.{without}
 use Rattle.crossing.specs.declared.crossing.Order.{Order}
@@ -24,35 +24,36 @@ module _ {K : Type 0} where
 
   week_rises : (d : ℕ) (xs : List K) → d + length xs ≤ 7 → Rising d (week_messages d xs)
   week_rises d [] fits = tt
-  week_rises d (x ∷ xs) fits = (omega arith, omega arith, week_rises (suc d) xs (omega arith))
+  week_rises d (x ∷ xs) fits = grind (arith, week_rises (suc d) xs)
 
   pub week_arrives : (days : List K) (d : ℕ) (xs : List K) → length days ≡ d + length xs → arrived days (week_messages d xs) ≡ take d days ++ xs
   week_arrives days d [] whole = sym (append-nil (take d days) ∙ take_all d days (omega arith))
   week_arrives days d (x ∷ xs) whole =
-      week_arrives (set days d x) (suc d) xs (omega (arith, length-set days d x)) ∙ ap (λ ys. ys ++ xs) (take-suc-set days d x (omega arith)) ∙ append_assoc (take d days) (x ∷ []) xs
+      let within : d < length days = omega arith in
+      rw (week_arrives (set days d x) (suc d) xs (omega (arith, length-set days d x)), take-suc-set days d x within, append_assoc) refl
 
   later : (d e : ℕ) (ms : List (Message K)) → d ≤ e → Rising e ms → Rising d ms
   later d e [] h rising = tt
-  later d e (m ∷ ms) h rising = (omega (arith, rising.0), rising.1, rising.2)
+  later d e (m ∷ ms) h rising = grind arith
 
-  rising_rest : (d : ℕ) (ms : List (Message K)) (k : ℕ) → Rising d ms → Rising d (remove ms k)
+  rising_rest : (d : ℕ) (ms : List (Message K)) (k : ℕ) → Rising d ms → Rising d (without ms k)
   rising_rest d [] zero rising = tt
   rising_rest d [] (suc k) rising = tt
   rising_rest d (m ∷ ms) zero rising = later d (suc m.block) ms (omega (arith, rising.0)) rising.2
   rising_rest d (m ∷ ms) (suc k) rising = (rising.0, rising.1, rising_rest (suc m.block) ms k rising.2)
 
-  block_within : (d : ℕ) (ms : List (Message K)) (k : ℕ) (m : Message K) → slice_get ms k ≡ Some m → Rising d ms → (d ≤ m.block) × (m.block < 7)
+  pub block_within : (d : ℕ) (ms : List (Message K)) (k : ℕ) (m : Message K) → slice_get ms k ≡ Some m → Rising d ms → (d ≤ m.block) × (m.block < 7)
   block_within d [] k m at rising = absurd (none-some m at)
-  block_within d (x ∷ ms) zero m at rising = let one = same_Some x m at in let same : x.block ≡ m.block = ap (λ n. n.block) one in (omega (arith, rising.0), omega (arith, rising.1))
-  block_within d (x ∷ ms) (suc k) m at rising = let rest = block_within (suc x.block) ms k m at rising.2 in (omega (arith, rising.0), rest.1)
+  block_within d (x ∷ ms) zero m at rising = grind arith
+  block_within d (x ∷ ms) (suc k) m at rising = grind (arith, block_within (suc x.block) ms k m)
 
   -- a message that is taken, and put at its day, changes nothing of what will have come
-  arrives : (d : ℕ) (days : List K) (ms : List (Message K)) (k : ℕ) (m : Message K) → slice_get ms k ≡ Some m → Rising d ms → arrived (set days m.block m.content) (remove ms k) ≡ arrived days ms
+  arrives : (d : ℕ) (days : List K) (ms : List (Message K)) (k : ℕ) (m : Message K) → slice_get ms k ≡ Some m → Rising d ms → arrived (set days m.block m.content) (without ms k) ≡ arrived days ms
   arrives d days [] k m at rising = absurd (none-some m at)
   arrives d days (x ∷ ms) zero m at rising = ap (λ n. arrived (set days n.block n.content) ms) (sym (same_Some x m at))
   arrives d days (x ∷ ms) (suc k) m at rising =
-      let rest = block_within (suc x.block) ms k m at rising.2 in
-      ap (λ ds. arrived ds (remove ms k)) (set_comm days m.block x.block m.content x.content (λ same. omega arith)) ∙ arrives (suc x.block) (set days x.block x.content) ms k m at rising.2
+      let behind = block_within (suc x.block) ms k m at rising.2 in
+      ap (λ ds. arrived ds (without ms k)) (set_comm days m.block x.block m.content x.content (λ same. omega arith)) ∙ arrives (suc x.block) (set days x.block x.content) ms k m at rising.2
 
 module _ {K : Type 0} (order : Order) (ready : List (Message K) → ℕ → Bool) (all : List (Message K)) where
   -- what holds after i messages were taken, of which `all` are the seven at first
@@ -78,28 +79,19 @@ module _ {K : Type 0} (order : Order) (ready : List (Message K) → ℕ → Bool
       → slice_get ms (next_place order ready ms) ≡ Some m → Underway (without ms (next_place order ready ms)) (i + 1) (set days m.block m.content) (set taken i m.block)
   takes ms i days taken m u h at =
       let k = next_place order ready ms in
-      let same : without ms k ≡ remove ms k = ap (λ n. take k ms ++ drop n ms) (add-one k) in
-      let less : length (remove ms k) + 1 ≡ length ms = length-remove ms k (slice_get_within ms k m at) in
-      let more : length ms ≡ suc (length (remove ms k)) = omega arith in
-      let next : arrivals order ready (length ms) ms ≡ m.block ∷ arrivals order ready (length (remove ms k)) (remove ms k) =
-      ap (λ n. arrivals order ready n ms) more ∙ ap (λ o. block_of o ∷ arrivals order ready (length (remove ms k)) (without ms k)) at
-      ∙ ap (λ ns. m.block ∷ arrivals order ready (length (remove ms k)) ns) same in
-      subst (λ ns. Underway ns (i + 1) (set days m.block m.content) (set taken i m.block)) (sym same)
+      let rest = without ms k in
+      let less : length ms ≡ suc (length rest) = omega (arith, length-remove ms k (slice_get_within ms k m at)) in
+      let next : arrivals order ready (length ms) ms ≡ m.block ∷ arrivals order ready (length rest) rest = rw (less, at) refl in
+      let here : i < length taken = omega (arith, u.counted) in
       record {
         left = omega (arith, u.left);
         counted = length-set taken i m.block ∙ u.counted;
         rising = rising_rest 0 ms k u.rising;
         arriving = arrives 0 days ms k m at u.rising ∙ u.arriving;
-        told = ap (λ ds. ds ++ arrivals order ready (length (remove ms k)) (remove ms k)) (take_more_set taken i m.block (omega (arith, u.counted)))
-            ∙ append_assoc (take i taken) (m.block ∷ []) (arrivals order ready (length (remove ms k)) (remove ms k)) ∙ ap (λ ds. take i taken ++ ds) (sym next) ∙ u.told;
+        told = rw (take_more_set taken i m.block here, append_assoc) (rw next at u.told);
       }
 
   -- while fewer than seven were taken, the next one is there
   pub goes_on : (ms : List (Message K)) (i : ℕ) (days : List K) (taken : List ℕ) → Underway ms i days taken → i < 7 → slice_get ms (next_place order ready ms) ≡ None → ⊥
   goes_on [] i days taken u h none = omega (arith, u.left)
-  goes_on (m ∷ ms) i days taken u h none =
-      let k = next_place order ready (m ∷ ms) in
-      none-some (get_or (m ∷ ms) k m) (sym none ∙ slice_get-get_or (m ∷ ms) k m (next_within ready order (m ∷ ms) (omega arith)))
-
-  pub fits : (ms : List (Message K)) (i : ℕ) (days : List K) (taken : List ℕ) (k : ℕ) (m : Message K) → Underway ms i days taken → Some m ≡ slice_get ms k → m.block < 7
-  fits ms i days taken k m u at = (block_within 0 ms k m (sym at) u.rising).1
+  goes_on (m ∷ ms) i days taken u h none = grind (arith, next_within, slice_get_cases)

@@ -20,8 +20,8 @@ use week::week::Week;
 
 // What taking this place gives where it is refused. A message that is ready stays.
 fn try_taking<K: Copy, N: Network<K>>(network: &mut N, place: usize) -> Option<NetworkFault>
-    ensures value { result ≡ result_err (take_answer N.Network.ready (N.Network.waiting network.old) place) }
-    ensures after { N.Network.waiting network.new ≡ N.Network.waiting network.old }
+    ensures value { result ≡ result_err (take_answer N.ready (N.waiting network.old) place) }
+    ensures after { N.waiting network.new ≡ N.waiting network.old }
 {
     match network.is_ready(place) {
         Ok(true) => None,
@@ -32,9 +32,9 @@ fn try_taking<K: Copy, N: Network<K>>(network: &mut N, place: usize) -> Option<N
 // Sends the week over an empty network that holds seven messages, tries what must be refused, and
 // takes all messages off it again.
 fn cross_over<K: Kind, N: Network<K>>(network: &mut N, week: &Week<K>, order: Order) -> Crossing<K>
-    requires empty { N.Network.waiting network.old ≡ [] }
-    requires room { N.Network.capacity network.old ≡ 7 }
-    ensures { Crosses order N.Network.ready week.now.days result }
+    requires empty { N.waiting network.old ≡ [] }
+    requires room { N.capacity network.old ≡ 7 }
+    ensures { Crosses order N.ready week.now.days result }
 {
     let posted = send(network, week);
     let monday = week.days[0];
@@ -62,7 +62,7 @@ pub fn cross<K: Kind, R: Readiness<K>>(
     week: &Week<K>,
     order: Order,
 ) -> Result<Crossing<K>, NetworkFault>
-    ensures { CrossesOr order R.Readiness.ready week.now.days result }
+    ensures { CrossesOr order R.ready week.now.days result }
 {
     let mut network = Queue::new(heap, 7, readiness)?;
     Ok(cross_over(&mut network, week, order))

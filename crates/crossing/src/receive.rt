@@ -1,5 +1,4 @@
-ghost use Rattle.std.specs.Prelude.{◌≡◌, ◌-◌, ◌<◌, [], length, slice_set};
-ghost use Rattle.std.specs.List.{slice_get};
+ghost use Rattle.std.specs.Prelude.{◌≡◌, ◌-◌, ◌<◌, [], length, slice_get, slice_set};
 ghost use Rattle.std.specs.Option.{SomeIff};
 ghost use Rattle.network.specs.Waiting.{without};
 ghost use Rattle.crossing.specs.Crossing.{week_messages, contents, last_ready, next_place, arrivals};
@@ -10,14 +9,16 @@ use network::network::Network;
 
 // The last place that is ready. While anything waits there is one, by the law of networks.
 fn last_ready<K: Copy, N: Network<K>>(network: &N) -> Option<usize>
-    ensures { SomeIff result (0 < length (N.Network.waiting network.now)) (last_ready (N.Network.ready (N.Network.waiting network.now)) (length (N.Network.waiting network.now) - 1)) }
+    ensures { let messages = N.waiting network.now in
+        SomeIff result (0 < length messages) (last_ready (N.ready messages) (length messages - 1)) }
 {
     (0..network.count()).rfind(|&place| network.is_ready(place).unwrap_or(false))
 }
 
 // The place that is taken next, while anything waits.
 fn next_place<K: Copy, N: Network<K>>(network: &N, order: Order) -> Option<usize>
-    ensures { SomeIff result (0 < length (N.Network.waiting network.now)) (next_place order N.Network.ready (N.Network.waiting network.now)) }
+    ensures { let messages = N.waiting network.now in
+        SomeIff result (0 < length messages) (next_place order N.ready messages) }
 {
     match order {
         Order::OldestFirst => (network.count() > 0).then_some(0),
@@ -27,14 +28,16 @@ fn next_place<K: Copy, N: Network<K>>(network: &N, order: Order) -> Option<usize
 
 // The message that is taken next, while any waits. The law of networks says that it is not refused.
 fn take_next<K: Copy, N: Network<K>>(network: &mut N, order: Order) -> Option<Message<K>>
-    ensures value { result ≡ slice_get (N.Network.waiting network.old) (next_place order N.Network.ready (N.Network.waiting network.old)) }
-    ensures after { N.Network.waiting network.new ≡ without (N.Network.waiting network.old) (next_place order N.Network.ready (N.Network.waiting network.old)) }
+    ensures value { let messages = N.waiting network.old in
+        result ≡ slice_get messages (next_place order N.ready messages) }
+    ensures after { let messages = N.waiting network.old in
+        N.waiting network.new ≡ without messages (next_place order N.ready messages) }
 {
     network.take(next_place(network, order)?).ok()
 }
 
-// Puts a message's content at its day. It is a function of its own, since only behind a reference is
-// an array of any content known to be of a size that can be indexed.
+// Puts a message's content at its day. A function of its own, since the check knows of an array of any
+// content that it is small enough to be indexed only where it is behind a reference.
 fn put<K: Copy>(days: &mut [K; 7], message: &Message<K>)
     requires { message.now.block < 7 }
     ensures { days.new ≡ slice_set days.old message.now.block message.now.content }
@@ -49,11 +52,12 @@ pub(crate) fn receive<K: Copy, N: Network<K>>(
     order: Order,
     blank: K,
 ) -> ([K; 7], [usize; 7])
-    requires seven { length (N.Network.waiting network.old) ≡ 7 }
-    requires sent { N.Network.waiting network.old ≡ week_messages 0 (contents (N.Network.waiting network.old)) }
-    ensures days { result.0 ≡ contents (N.Network.waiting network.old) }
-    ensures order { result.1 ≡ arrivals order N.Network.ready (length (N.Network.waiting network.old)) (N.Network.waiting network.old) }
-    ensures after { N.Network.waiting network.new ≡ [] }
+    requires seven { length (N.waiting network.old) ≡ 7 }
+    requires sent { N.waiting network.old ≡ week_messages 0 (contents (N.waiting network.old)) }
+    ensures days { result.0 ≡ contents (N.waiting network.old) }
+    ensures order { let messages = N.waiting network.old in
+        result.1 ≡ arrivals order N.ready (length messages) messages }
+    ensures after { N.waiting network.new ≡ [] }
 {
     let mut days = [blank; 7];
     let mut sequence = [0; 7];

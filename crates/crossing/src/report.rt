@@ -4,6 +4,7 @@ ghost use Rattle.crossing.specs.Report.{order_text, equal_text, tried_text, days
 use crate::crossing::{Crossing, Crossings, Order};
 use kinds::row::DayRow;
 use network::fault::NetworkFault;
+use refusal::Refusal;
 use std::fmt;
 use week::day::Day;
 use week::report::Saved;
@@ -32,7 +33,7 @@ impl fmt::Display for Tried {
 
     fn fmt<W: fmt::Write>(&self, f: &mut fmt::Formatter<W>) -> fmt::Result {
         match self.fault {
-            Some(fault) => write!(f, "refused, {}", fault.refusal()),
+            Some(fault) => write!(f, "refused, {}", Refusal::from(fault)),
             None => f.write_str(self.otherwise),
         }
     }
@@ -47,7 +48,7 @@ impl fmt::Display for Days<'_> {
 
     fn fmt<W: fmt::Write>(&self, f: &mut fmt::Formatter<W>) -> fmt::Result {
         for day in self.0 {
-            write!(f, " {}", Day::at_or_last(*day).name())?;
+            write!(f, " {}", Day::at_or_last(*day))?;
         }
         Ok(())
     }
@@ -166,11 +167,11 @@ impl fmt::Display for Report<'_> {
             order: Order::NewestFirst,
             crossing: &self.crossings.turned,
         };
-        let verdict = self.crossings.verdict(self.saves).words();
         write!(
             f,
-            "{}\n{straight}\n{mixed}\n{turned}\n{verdict}",
-            self.saved
+            "{}\n{straight}\n{mixed}\n{turned}\n{}",
+            self.saved,
+            self.crossings.verdict(self.saves)
         )
     }
 }

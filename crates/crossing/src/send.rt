@@ -22,11 +22,11 @@ pub(crate) fn day_message<K: Copy>(day: usize, content: K) -> Message<K>
 
 // Posts the seven days, and answers how many were accepted.
 pub(crate) fn send<K: Copy, N: Network<K>>(network: &mut N, week: &Week<K>) -> usize
-    requires empty { N.Network.waiting network.old ≡ [] }
-    requires room { 7 ≤ N.Network.capacity network.old }
+    requires empty { N.waiting network.old ≡ [] }
+    requires room { 7 ≤ N.capacity network.old }
     ensures value { result ≡ 7 }
-    ensures after { N.Network.waiting network.new ≡ week_messages 0 week.now.days }
-    ensures fixed { N.Network.capacity network.new ≡ N.Network.capacity network.old }
+    ensures after { N.waiting network.new ≡ week_messages 0 week.now.days }
+    ensures fixed { N.capacity network.new ≡ N.capacity network.old }
 {
     let mut posted = 0;
     for (day, content) in week.days.iter().enumerate() {
