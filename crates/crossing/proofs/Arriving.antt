@@ -1,14 +1,14 @@
 -- The days of a week as they arrive, whatever the order in which they are taken.
-use Rattle.std.proofs.Common.{◌≡◌, ℕ, zero, suc, ◌+◌, ◌<◌, ◌≤◌, Bool, List, [], ◌∷◌, ◌++◌, length, get_or, take, drop, set, None, Some, sym, refl, ap, ◌∙◌, subst, append_assoc, append-nil, add-one, arith, length-set}
+use Rattle.std.proofs.Common.{◌≡◌, ℕ, zero, suc, ◌+◌, ◌<◌, ◌≤◌, Bool, List, [], ◌∷◌, ◌++◌, length, take, set, None, Some, sym, refl, ap, ◌∙◌, subst, append_assoc, append-nil, arith, length-set}
 use Rattle.std.proofs.lemmas.List.{length-map, set_comm, take_all, take_more_set}
 use Rattle.std.proofs.Math.Seq.{take-suc-set}
 use Rattle.std.proofs.lemmas.List.Edits.{length-remove}
-use Rattle.std.proofs.lemmas.Option.{none-some, same_Some, slice_get_within, slice_get-get_or, slice_get_cases}
+use Rattle.std.proofs.lemmas.Option.{none-some, same_Some, slice_get_within, slice_get_cases}
 use Rattle.std.specs.List.{slice_get}
 use Rattle.network.specs.declared.message.Message.{Message}
 use Rattle.network.specs.Waiting.{without}
 use Rattle.crossing.specs.declared.crossing.Order.{Order}
-use Rattle.crossing.specs.Crossing.{week_messages, contents, block_of, next_place, arrivals}
+use Rattle.crossing.specs.Crossing.{week_messages, contents, next_place, arrivals}
 use Rattle.crossing.proofs.Places.{next_within}
 
 module _ {K : Type 0} where

@@ -1,6 +1,5 @@
 -- A week's contents as messages, and the order in which they are taken off a network.
-use Rattle.std.specs.Prelude.{◌≡◌, ℕ, zero, suc, ◌+◌, ◌-◌, ◌%◌, Bool, true, IsTrue, if◌then◌else◌, ◌&&◌, List, [], ◌∷◌, map, length, Some, None, Ok, Err, Option, Result}
-use Rattle.std.specs.List.{slice_get}
+use Rattle.std.specs.Prelude.{◌≡◌, ℕ, zero, suc, ◌+◌, ◌-◌, ◌%◌, Bool, true, IsTrue, if◌then◌else◌, ◌&&◌, List, [], ◌∷◌, map, length, Some, None, Ok, Err, Option, Result, slice_get}
 use Rattle.network.specs.declared.fault.NetworkFault.{NetworkFault}
 use Rattle.network.specs.declared.fault.NetworkFault.TheVariants.{NoPlace, NotReady, Full, NoMemory}
 use Rattle.network.specs.declared.message.Message.{Message}
