@@ -42,7 +42,7 @@ module _ {K : Type 0} where
   rising_rest d (m ∷ ms) zero rising = later d (suc m.block) ms (omega (arith, rising.0)) rising.2
   rising_rest d (m ∷ ms) (suc k) rising = (rising.0, rising.1, rising_rest (suc m.block) ms k rising.2)
 
-  pub block_within : (d : ℕ) (ms : List (Message K)) (k : ℕ) (m : Message K) → slice_get ms k ≡ Some m → Rising d ms → (d ≤ m.block) × (m.block < 7)
+  block_within : (d : ℕ) (ms : List (Message K)) (k : ℕ) (m : Message K) → slice_get ms k ≡ Some m → Rising d ms → (d ≤ m.block) × (m.block < 7)
   block_within d [] k m at rising = absurd (none-some m at)
   block_within d (x ∷ ms) zero m at rising = grind arith
   block_within d (x ∷ ms) (suc k) m at rising = grind (arith, block_within (suc x.block) ms k m)

@@ -1,13 +1,10 @@
-use Rattle.std.proofs.Common.{refl, sym, ◌∙◌, rules}
-use Rattle.crossing.proofs.Arriving.{starts, takes, goes_on, block_within}
+use Rattle.std.proofs.Common.{refl, sym, ◌∙◌}
+use Rattle.crossing.proofs.Arriving.{starts, takes, goes_on}
 use Rattle.crossing.proofs.receive.receive.Goals as goal
 use Rattle.crossing.proofs.receive.receive.Goals.{in-Some, in_default}
 
 pub loop-taken-init : goal.loop-taken-init
 loop-taken-init g c = starts c.args.order g.N.Network.ready (g.N.Network.waiting c.args.network.now) c.requires.seven c.requires.sent _ _ refl refl
-
-pub put-requires : goal.put-requires
-put-requires g c = (search rules, (block_within 0 _ _ _ (sym c.in-Some.ensures.value) c.loop-taken.invariant.rising).1)
 
 pub loop-taken-preserved : goal.loop-taken-preserved
 loop-taken-preserved g c =
