@@ -1,7 +1,7 @@
 use network::fault::NetworkFault;
 use week::week::Week;
 
-// In which order the waiting messages are taken.
+// In which order the waiting messages are taken. An enum and not a closure, as the report names it.
 #[derive(Clone, Copy, PartialEq, Eq, Debug)]
 pub enum Order {
     // always the message at place 0
@@ -14,7 +14,7 @@ pub enum Order {
 #[derive(Drop)]
 pub struct Crossing<K> {
     pub arrived: Week<K>,
-    // whether it was compared with what was sent and found equal
+    // whether it was compared with what was sent and found equal; the week is there in both cases
     pub equal: bool,
     // the days in the order in which they were taken, Monday as 0
     pub sequence: [usize; 7],
