@@ -1,7 +1,8 @@
 use network::fault::NetworkFault;
 use week::week::Week;
 
-// In which order the waiting messages are taken. An enum and not a closure, as the report names it.
+// In which order the waiting messages are taken: an enum and no closure, since it is printed too, and
+// the theorem on a crossing names it.
 #[derive(Clone, Copy, PartialEq, Eq, Debug)]
 pub enum Order {
     // always the message at place 0
@@ -16,7 +17,7 @@ pub struct Crossing<K> {
     pub arrived: Week<K>,
     // whether it was compared with what was sent and found equal; the week is there in both cases
     pub equal: bool,
-    // the days in the order in which they were taken, Monday as 0
+    // the days in the order in which they were taken, by their numbers in the messages, Monday as 0
     pub sequence: [usize; 7],
     pub posted: usize,
     pub taken: usize,
