@@ -22,26 +22,31 @@ module _ {K : Type 0} where
   Rising d [] = Unit {0}
   Rising d (m ∷ ms) = (d ≤ m.block) × (m.block < 7) × Rising (suc m.block) ms
 
+  -- at first all seven wait
   week_rises : (d : ℕ) (xs : List K) → d + length xs ≤ 7 → Rising d (week_messages d xs)
   week_rises d [] fits = tt
   week_rises d (x ∷ xs) fits = grind (arith, week_rises (suc d) xs)
 
+  -- and fill the days from day d on
   pub week_arrives : (days : List K) (d : ℕ) (xs : List K) → length days ≡ d + length xs → arrived days (week_messages d xs) ≡ take d days ++ xs
   week_arrives days d [] whole = sym (append-nil (take d days) ∙ take_all d days (omega arith))
   week_arrives days d (x ∷ xs) whole =
       let within : d < length days = omega arith in
       rw (week_arrives (set days d x) (suc d) xs (omega (arith, length-set days d x)), take-suc-set days d x within, append_assoc) refl
 
+  -- days that rise from a later day on rise from an earlier one on
   later : (d e : ℕ) (ms : List (Message K)) → d ≤ e → Rising e ms → Rising d ms
   later d e [] h rising = tt
   later d e (m ∷ ms) h rising = grind arith
 
+  -- and still rise once one was taken
   rising_rest : (d : ℕ) (ms : List (Message K)) (k : ℕ) → Rising d ms → Rising d (without ms k)
   rising_rest d [] zero rising = tt
   rising_rest d [] (suc k) rising = tt
   rising_rest d (m ∷ ms) zero rising = later d (suc m.block) ms (omega (arith, rising.0)) rising.2
   rising_rest d (m ∷ ms) (suc k) rising = (rising.0, rising.1, rising_rest (suc m.block) ms k rising.2)
 
+  -- the day of a message that waits
   block_within : (d : ℕ) (ms : List (Message K)) (k : ℕ) (m : Message K) → slice_get ms k ≡ Some m → Rising d ms → (d ≤ m.block) × (m.block < 7)
   block_within d [] k m at rising = absurd (none-some m at)
   block_within d (x ∷ ms) zero m at rising = grind arith
@@ -64,6 +69,7 @@ module _ {K : Type 0} (order : Order) (ready : List (Message K) → ℕ → Bool
     pub arriving : arrived days ms ≡ contents all
     pub told : take i taken ++ arrivals order ready (length ms) ms ≡ arrivals order ready (length all) all
 
+  -- before the first is taken
   pub starts : length all ≡ 7 → all ≡ week_messages 0 (contents all) → (days : List K) (taken : List ℕ) → length days ≡ 7 → length taken ≡ 7 → Underway all 0 days taken
   starts seven sent days taken whole counted =
       let long : length (contents all) ≡ 7 = length-map all (λ m. m.content) ∙ seven in
@@ -75,6 +81,7 @@ module _ {K : Type 0} (order : Order) (ready : List (Message K) → ℕ → Bool
         told = refl;
       }
 
+  -- one message is taken, and put at its day
   pub takes : (ms : List (Message K)) (i : ℕ) (days : List K) (taken : List ℕ) (m : Message K) → Underway ms i days taken → i < 7
       → slice_get ms (next_place order ready ms) ≡ Some m → Underway (without ms (next_place order ready ms)) (i + 1) (set days m.block m.content) (set taken i m.block)
   takes ms i days taken m u h at =

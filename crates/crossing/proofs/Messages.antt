@@ -9,10 +9,12 @@ use Rattle.network.specs.Waiting.{post_answer, post_after, take_answer}
 use Rattle.crossing.specs.Crossing.{day_message, week_messages, contents}
 
 module _ {K : Type 0} where
+  -- as many messages as days
   pub week_long : (d : ℕ) (xs : List K) → length (week_messages d xs) ≡ length xs
   week_long d [] = refl
   week_long d (x ∷ xs) = ap suc (week_long (suc d) xs)
 
+  -- and their contents are the days
   pub week_contents : (d : ℕ) (xs : List K) → contents (week_messages d xs) ≡ xs
   week_contents d [] = refl
   week_contents d (x ∷ xs) = ap (λ ys. x ∷ ys) (week_contents (suc d) xs)
@@ -41,6 +43,7 @@ module _ {K : Type 0} where
   pub place_behind : (ready : List (Message K) → ℕ → Bool) (days : List K) (k : ℕ) → length days ≡ 7 → k ≡ 7 → result_err (take_answer ready (week_messages 0 days) k) ≡ Some (NoPlace 7)
   place_behind ready days k seven at = grind (arith, nat_tests, week_long)
 
+  -- the last of seven places is refused unless it is ready
   pub last_place : (ready : List (Message K) → ℕ → Bool) (days : List K) → length days ≡ 7
       → result_err (take_answer ready (week_messages 0 days) 6) ≡ if ready (week_messages 0 days) 6 then None else Some (NotReady 6)
   last_place ready days seven = grind (arith, nat_tests, week_long, slice_get_cases)

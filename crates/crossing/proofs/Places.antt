@@ -16,20 +16,24 @@ module _ (ready : ℕ → Bool) where
   last_here zero x within is behind = omega arith
   last_here (suc k) x within is behind = grind (arith, last_here k x)
 
+  -- the last ready place is no later than the last place
   last_within : (k : ℕ) → last_ready ready k ≤ k
   last_within zero = omega arith
   last_within (suc k) = grind (arith, last_within k)
 
+  -- and ready, since place 0 is
   last_is_ready : (k : ℕ) → ready 0 ≡ true → ready (last_ready ready k) ≡ true
   last_is_ready zero first = first
   last_is_ready (suc k) first = grind (arith, last_is_ready k first)
 
 module _ {M : Type 0} (ready : List M → ℕ → Bool) where
+  -- the place that is taken next is there
   pub next_within : (order : Order) (ms : List M) → 0 < length ms → next_place order ready ms < length ms
   next_within OldestFirst ms some = some
   next_within NewestFirst ms some = omega (arith, last_within (ready ms) (length ms - 1))
 
 module _ {M : Type 0} (ready : List M → ℕ → Bool) (law : Progress ready) where
+  -- the law, of any list
   oldest : (ms : List M) → 0 < length ms → ready ms 0 ≡ true
   oldest [] h = absurd (omega arith)
   oldest (m ∷ ms) h = law m ms
@@ -41,6 +45,7 @@ module _ {M : Type 0} (ready : List M → ℕ → Bool) (law : Progress ready) w
   last_found ms None h = λ some. let is = oldest ms some in let not = h 0 some in cc
   last_found ms (Some k) h = (omega (arith, (h 0).0), last_here (ready ms) (length ms - 1) k (omega (arith, (h 0).0)) (h 0).1 (λ j after within. (h j).2 after (omega (arith, (h 0).0))))
 
+  -- the place that is taken next is ready
   next_is_ready : (order : Order) (ms : List M) → 0 < length ms → ready ms (next_place order ready ms) ≡ true
   next_is_ready OldestFirst ms some = oldest ms some
   next_is_ready NewestFirst ms some = last_is_ready (ready ms) (length ms - 1) (oldest ms some)
