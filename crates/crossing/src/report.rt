@@ -1,4 +1,4 @@
-ghost use Rattle.std.specs.Prelude.{Some};
+ghost use Rattle.std.specs.Prelude.{◌≡◌, Some};
 ghost use Rattle.crossing.specs.Report.{order_text, equal_text, tried_text, days_text, refusals_text, counts_text, crossing_text, report_text};
 
 use crate::crossing::{Crossing, Crossings, Order};
@@ -10,14 +10,22 @@ use week::day::Day;
 use week::report::Saved;
 use week::verdict::Verdict;
 
+impl Order {
+    pub fn words(self) -> &'static str
+        ensures { result.now ≡ order_text self }
+    {
+        match self {
+            Order::OldestFirst => "oldest first",
+            Order::NewestFirst => "newest first",
+        }
+    }
+}
+
 impl fmt::Display for Order {
     ghost output = { λ o. Some (order_text o) };
 
     fn fmt<W: fmt::Write>(&self, f: &mut fmt::Formatter<W>) -> fmt::Result {
-        f.write_str(match self {
-            Order::OldestFirst => "oldest first",
-            Order::NewestFirst => "newest first",
-        })
+        f.write_str(self.words())
     }
 }
 

@@ -43,6 +43,20 @@ impl Day {
     {
         Day::ALL.get(i).copied().unwrap_or(Day::Sunday)
     }
+
+    pub fn name(self) -> &'static str
+        ensures { result.now ≡ day_text self }
+    {
+        match self {
+            Day::Monday => "Monday",
+            Day::Tuesday => "Tuesday",
+            Day::Wednesday => "Wednesday",
+            Day::Thursday => "Thursday",
+            Day::Friday => "Friday",
+            Day::Saturday => "Saturday",
+            Day::Sunday => "Sunday",
+        }
+    }
 }
 
 // The day's place in the week, Monday at 0.
@@ -58,14 +72,6 @@ impl fmt::Display for Day {
     ghost output = { λ day. Some (day_text day) };
 
     fn fmt<W: fmt::Write>(&self, f: &mut fmt::Formatter<W>) -> fmt::Result {
-        f.write_str(match self {
-            Day::Monday => "Monday",
-            Day::Tuesday => "Tuesday",
-            Day::Wednesday => "Wednesday",
-            Day::Thursday => "Thursday",
-            Day::Friday => "Friday",
-            Day::Saturday => "Saturday",
-            Day::Sunday => "Sunday",
-        })
+        f.write_str(self.name())
     }
 }

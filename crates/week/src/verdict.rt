@@ -21,14 +21,22 @@ pub struct Checked<K> {
     pub verdict: Verdict,
 }
 
+impl Verdict {
+    pub fn words(self) -> &'static str
+        ensures { result.now ≡ verdict_text self }
+    {
+        match self {
+            Verdict::MayLeave => "Verdict: the build may leave; both saves are alike.",
+            Verdict::Stays => "Verdict: the build stays.",
+        }
+    }
+}
+
 impl fmt::Display for Verdict {
     ghost output = { λ verdict. Some (verdict_text verdict) };
 
     fn fmt<W: fmt::Write>(&self, f: &mut fmt::Formatter<W>) -> fmt::Result {
-        f.write_str(match self {
-            Verdict::MayLeave => "Verdict: the build may leave; both saves are alike.",
-            Verdict::Stays => "Verdict: the build stays.",
-        })
+        f.write_str(self.words())
     }
 }
 
