@@ -11,6 +11,7 @@ use week::report::Saved;
 use week::verdict::Verdict;
 
 impl Order {
+    // Beside `Display`, since it cannot fail.
     pub fn words(self) -> &'static str
         ensures { result.now ≡ order_text self }
     {

@@ -44,6 +44,7 @@ impl Day {
         Day::ALL.get(i).copied().unwrap_or(Day::Sunday)
     }
 
+    // Beside `Display`, since it cannot fail.
     pub fn name(self) -> &'static str
         ensures { result.now ≡ day_text self }
     {

@@ -22,6 +22,7 @@ pub struct Checked<K> {
 }
 
 impl Verdict {
+    // Beside `Display`, since it cannot fail.
     pub fn words(self) -> &'static str
         ensures { result.now ≡ verdict_text self }
     {
