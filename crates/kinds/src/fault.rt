@@ -14,7 +14,7 @@ pub enum ContentFault {
 
 // A slice that is no array of the kind's width has a wrong length.
 impl From<TryFromSliceError> for ContentFault {
-    ghost from_gives = { λ e r. r ≡ WrongLength };
+    ghost from_gives = { λ _ r. r ≡ WrongLength };
 
     fn from(_e: TryFromSliceError) -> ContentFault {
         Self::WrongLength

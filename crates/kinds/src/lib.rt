@@ -3,8 +3,7 @@
 
 pub mod fault;
 pub mod kind;
+pub mod laws;
 pub mod round;
 pub mod row;
-pub mod row_kind;
 pub mod valve;
-pub mod valve_kind;

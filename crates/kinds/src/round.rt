@@ -1,14 +1,9 @@
-ghost use Rattle.kinds.specs.Law.{KindLaw, RoundTrips};
+ghost use Rattle.kinds.specs.Law.{RoundTrips};
 
 use crate::fault::ContentFault;
 use crate::kind::Kind;
 
-// The law of content kinds holds of every kind.
-pub fn kind_law_stands<K: Kind>()
-    ensures { KindLaw K.Kind }
-{}
-
-// Writes a content over the slice and reads it back from there.
+/// Writes a content over the slice and reads it back from there.
 pub fn round_trip<K: Kind>(x: &K, to: &mut [u8]) -> Result<K, ContentFault>
     ensures { RoundTrips K.Kind x.now to.old to.new result }
 {

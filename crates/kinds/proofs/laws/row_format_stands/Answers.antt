@@ -2,7 +2,7 @@ use Rattle.std.proofs.Common.{arith}
 use Rattle.kinds.specs.Row.{hours_legal}
 use Rattle.kinds.specs.Faults.{fault_fine, fault_bad}
 use Rattle.kinds.specs.Rows.{hour_bits-row_bytes, all_legal, one_illegal}
-use Rattle.kinds.proofs.row_kind.row_format_stands.Goals as goal
+use Rattle.kinds.proofs.laws.row_format_stands.Goals as goal
 
 pub returns : goal.returns
 returns c = record {

@@ -4,7 +4,7 @@ use Rattle.kinds.specs.declared.row.HourMode.TheVariants.{Off}
 use Rattle.kinds.specs.Row.{code_of, mode_of, hour_bits, hours_legal}
 use Rattle.kinds.specs.Faults.{fault_bad}
 use Rattle.kinds.specs.Rows.{no_mode, code_of_mode, one_illegal, bytes_from}
-use Rattle.kinds.proofs.row_kind.DayRowKind.read.Goals as goal
+use Rattle.kinds.proofs.row.DayRowKind.read.Goals as goal
 
 pub returns-in_err-mode : goal.returns-in_err-mode
 returns-in_err-mode c =
