@@ -33,7 +33,7 @@ row_bytes row = map (row_byte row.hours) (range_with_len 0 6)
 abbrev pub hour_bits : List ℕ → ℕ → ℕ
 hour_bits bs k = slice_index bs (k / 4) / 2 ^ (2 * (k % 4)) % 4
 
--- none of the first n hours is 3
+-- none of the first n hours is 3; by recursion, as the hours stand in bits and in no list
 abbrev pub hours_legal : List ℕ → ℕ → Bool
 hours_legal bs zero = true
 hours_legal bs (suc n) = hours_legal bs n && nat_lt (hour_bits bs n) 3

@@ -1,10 +1,10 @@
 -- Hours and bytes of a day row.
-use Rattle.std.specs.Prelude.{◌≡◌, ℕ, zero, suc, ◌+◌, ◌*◌, ◌/◌, ◌%◌, ◌^◌, ◌<◌, ◌≤◌, true, false, List, map, length, Some, None, nat_lt, slice_index, slice_index_or, refl}
-use Rattle.std.proofs.Common.{ap, ◌∙◌, sym, inl, inr, arith, add-zero, div-add-mod'}
+use Rattle.std.specs.Prelude.{◌≡◌, ℕ, zero, suc, ◌+◌, ◌*◌, ◌/◌, ◌%◌, ◌^◌, ◌<◌, ◌≤◌, false, List, map, length, Some, None, IsTrue, slice_index, slice_index_or, refl}
+use Rattle.std.proofs.Common.{ap, ◌∙◌, sym, arith, add-zero}
 use Rattle.std.specs.List.{range_with_len}
 use Rattle.std.specs.Option.{unwrap_or}
 use Rattle.std.proofs.lemmas.List.FromFn.{get_or-map-range_with_len, length-map-range_with_len, fill_by_all}
-use Rattle.std.proofs.lemmas.Bool.{lt-ltb, le-ltb, and_from, and_left, and_right, both_ways, cases_order, cases_lt}
+use Rattle.std.proofs.lemmas.Bool.Decides.{nat_tests}
 use Rattle.kinds.specs.declared.row.HourMode.{HourMode}
 use Rattle.kinds.specs.declared.row.HourMode.TheVariants.{Off, Low, Comfort}
 use Rattle.kinds.specs.declared.row.DayRow.{DayRow}
@@ -39,26 +39,19 @@ no_mode (suc (suc zero)) e = cc
 no_mode (suc (suc (suc n))) e = omega arith
 
 -- what holds of every hour, and what one bad hour does
-pub all_legal : (bs : List ℕ) (n : ℕ) → ((k : ℕ) → k < n → hour_bits bs k < 3) → hours_legal bs n ≡ true
+pub all_legal : (bs : List ℕ) (n : ℕ) → ((k : ℕ) → k < n → hour_bits bs k < 3) → IsTrue (hours_legal bs n)
 all_legal bs zero h = refl
 all_legal bs (suc n) h =
-    and_from (hours_legal bs n) (nat_lt (hour_bits bs n) 3) (all_legal bs n (λ k l. h k (omega arith))) (lt-ltb (hour_bits bs n) 3 (h n (omega arith)))
+    let earlier = all_legal bs n (λ k l. h k (omega arith)) in
+    let here = h n (omega arith) in
+    grind (arith, nat_tests)
 
 pub one_illegal : (bs : List ℕ) (n k : ℕ) → k < n → 3 ≤ hour_bits bs k → hours_legal bs n ≡ false
 one_illegal bs zero k l h = absurd (omega arith)
-one_illegal bs (suc n) k l h =
-    elim (cases_order k n) [
-      | inl e ↦ and_right (hours_legal bs n) (nat_lt (hour_bits bs n) 3) (le-ltb (hour_bits bs n) 3 (omega (arith, ap (hour_bits bs) e)))
-      | inr (inl b) ↦ and_left (hours_legal bs n) (nat_lt (hour_bits bs n) 3) (one_illegal bs n k b h)
-      | inr (inr b) ↦ absurd (omega arith)
-    ]
+one_illegal bs (suc n) k l h = let earlier = one_illegal bs n k in grind (arith, nat_tests)
 
-pub each_legal : (bs : List ℕ) (n : ℕ) → hours_legal bs n ≡ true → (k : ℕ) → k < n → hour_bits bs k < 3
-each_legal bs n all k h =
-    elim (cases_lt (hour_bits bs k) 3) [
-      | inl l ↦ l
-      | inr l ↦ absurd (both_ways (hours_legal bs n) (one_illegal bs n k h l) all)
-    ]
+pub each_legal : (bs : List ℕ) (n : ℕ) → IsTrue (hours_legal bs n) → (k : ℕ) → k < n → hour_bits bs k < 3
+each_legal bs n all k h = let illegal = one_illegal bs n k h in grind arith
 
 module _ (hs : List HourMode) (q : ℕ) where
   at : (j : ℕ) → hour_code hs (4 * q + j) ≤ 2
@@ -85,14 +78,7 @@ bits_at bs q j h =
     rw (d, m)
 
 four_digits : (b : ℕ) → b < 256 → b % 4 + 4 * (b / 4 % 4) + 16 * (b / 16 % 4) + 64 * (b / 64 % 4) ≡ b
-four_digits b h =
-    let p : b / 16 ≡ b / 4 / 4 = omega arith in
-    let q : b / 64 ≡ b / 16 / 4 = omega arith in
-    let t : b / 64 % 4 ≡ b / 64 = omega arith in
-    let x = div-add-mod' b 4 in
-    let y = div-add-mod' (b / 4) 4 in
-    let z = div-add-mod' (b / 16) 4 in
-    omega arith
+four_digits b h = omega arith
 
 -- six bytes are the bytes of the hours that they hold
 pub bytes_from : (bs : List ℕ) (hs : List HourMode) → length bs ≡ 6 → ((i : ℕ) → slice_index bs i < 256) → ((k : ℕ) → k < 24 → hour_code hs k ≡ hour_bits bs k)

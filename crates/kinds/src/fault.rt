@@ -5,7 +5,7 @@ ghost use Rattle.kinds.specs.Fault.{is_length, refusal_of};
 use refusal::{Layer, Place, Refusal};
 use std::array::TryFromSliceError;
 
-// Why a kind refused: the slice is not as long as the kind is wide, or its bytes stand for no content.
+/// Why a kind refused: the slice is not as long as the kind is wide, or its bytes stand for no content.
 #[derive(Clone, Copy, PartialEq, Eq, Debug)]
 pub enum ContentFault {
     WrongLength,
@@ -37,7 +37,7 @@ impl From<ContentFault> for Refusal {
 }
 
 impl ContentFault {
-    // Whether the slice's length was wrong, whatever its bytes were.
+    /// Whether the slice's length was wrong, whatever its bytes were.
     pub fn is_length(&self) -> bool
         ensures { result ≡ is_length self.now }
     {

@@ -5,8 +5,8 @@ ghost use Rattle.kinds.specs.Kind.{Reads, Writes};
 
 use crate::fault::ContentFault;
 
-// A kind of content, for instance one day of a heating schedule. Code over any kind is proved from
-// this trait alone.
+/// A kind of content, for instance one day of a heating schedule. Code over any kind is proved from
+/// this trait alone.
 pub trait Kind: Copy {
     // how many bytes a content takes
     ghost width: { ℕ };
@@ -20,11 +20,11 @@ pub trait Kind: Copy {
     fn width() -> usize
         ensures { result ≡ width };
 
-    // The content that the bytes stand for.
+    /// The content that the bytes stand for.
     fn read(from: &[u8]) -> Result<Self, ContentFault>
         ensures { Reads bytes fault from.now result };
 
-    // Writes the content's bytes over the whole slice; one that is not as long as the kind is wide stays as it was.
+    /// Writes the content's bytes over the whole slice; one that is not as long as the kind is wide stays as it was.
     fn write(&self, to: &mut [u8]) -> Result<(), ContentFault>
         ensures { Writes width (bytes self.now) to.old to.new result };
 
