@@ -3,10 +3,10 @@ use kinds::kind::Kind;
 use std::process::Abort;
 
 // A length other than the kind's width is refused, and nothing is written.
-pub fn refused_but<K: Kind>(rt: &impl Abort, width: usize, content: &K, filler: u8) {
+pub fn refuses_other_lengths<K: Kind>(rt: &impl Abort, width: usize, content: &K, filler: u8) {
     for n in 0..66 {
         let mut bytes = [filler; 66];
-        match K::read(&bytes[0..n]) {
+        match K::read(&bytes[..n]) {
             Ok(_) => assert_eq!(rt; n, width),
             Err(fault) => assert!(rt; fault.is_length() && n != width),
         }

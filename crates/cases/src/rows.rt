@@ -1,4 +1,4 @@
-use crate::lengths::refused_but;
+use crate::lengths::refuses_other_lengths;
 use kinds::fault::ContentFault;
 use kinds::kind::Kind;
 use kinds::round::round_trip;
@@ -67,5 +67,5 @@ fn lengths(rt: HostRuntime) {
     let row = DayRow {
         hours: [HourMode::Comfort; 24],
     };
-    refused_but(&rt, 6, &row, 0x55);
+    refuses_other_lengths(&rt, 6, &row, 0x55);
 }

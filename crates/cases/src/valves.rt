@@ -1,4 +1,4 @@
-use crate::lengths::refused_but;
+use crate::lengths::refuses_other_lengths;
 use kinds::fault::ContentFault;
 use kinds::kind::Kind;
 use kinds::round::round_trip;
@@ -104,7 +104,7 @@ fn lengths(rt: HostRuntime) {
         opening: 40,
         flags: 1,
     };
-    refused_but(&rt, 4, &valve, 1);
+    refuses_other_lengths(&rt, 4, &valve, 1);
 }
 
 // Both cases of the fault are refusal 21 of the kinds at place 0.
