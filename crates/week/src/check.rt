@@ -17,7 +17,7 @@ pub fn check_week<K: Kind>(
     ensures { Checks K.Kind bytes.now first.old second.old first.new second.new result }
 {
     let week = Week::<K>::load(bytes)?;
-    let size = 7 * K::width();
+    let size = Week::<K>::bytes_long();
     if first.len() != size || second.len() != size {
         return Err(CheckFault::Save(ContentFault::WrongLength));
     }

@@ -6,7 +6,6 @@ pub mod compare;
 pub mod day;
 pub mod drawing;
 pub mod fault;
-pub mod load_save;
 pub mod reason;
 pub mod report;
 pub mod verdict;

@@ -37,13 +37,12 @@ impl fmt::Display for Reason {
 
     fn fmt<W: fmt::Write>(&self, f: &mut fmt::Formatter<W>) -> fmt::Result {
         match self {
-            Reason::BadHour => write!(
-                f,
-                "an hour of the day is 3, which is neither off, low nor comfort"
-            ),
+            Reason::BadHour => {
+                f.write_str("an hour of the day is 3, which is neither off, low nor comfort")
+            }
             Reason::Short(length) => write!(f, "the week ends after {length} of 42 bytes"),
-            Reason::Long => write!(f, "the week goes on after 42 bytes"),
-            Reason::SaveLength => write!(f, "the slice for it is not as long as the week"),
+            Reason::Long => f.write_str("the week goes on after 42 bytes"),
+            Reason::SaveLength => f.write_str("the slice for it is not as long as the week"),
         }
     }
 }

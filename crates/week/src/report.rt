@@ -1,12 +1,13 @@
 // The release check's report, as a person reads it.
-ghost use Rattle.std.specs.Prelude.{Some};
+ghost use Rattle.std.specs.Prelude.{◌≡◌, Some};
+ghost use Rattle.week.specs.Reason.{reason_of};
 ghost use Rattle.week.specs.Report.{line_text, lines_text, saved_text, accepted_text, subject_text, refused_text};
 ghost use Rattle.week.specs.Week.{week_days};
 
 use crate::day::Day;
 use crate::drawing::{Drawn, hours_in};
 use crate::fault::CheckFault;
-use crate::reason::reason_of;
+use crate::reason::{Reason, reason_of};
 use crate::verdict::Verdict;
 use crate::week::Week;
 use kinds::row::{DayRow, HourMode};
@@ -95,6 +96,15 @@ pub struct Refused {
     pub length: usize,
 }
 
+impl Refused {
+    // Why it was refused.
+    fn reason(&self) -> Reason
+        ensures { result ≡ reason_of self.now.fault self.now.length }
+    {
+        reason_of(self.fault, self.length)
+    }
+}
+
 impl fmt::Display for Refused {
     ghost output = { λ r. Some (refused_text r.fault r.length) };
 
@@ -104,7 +114,7 @@ impl fmt::Display for Refused {
             "{} is refused: {}\nReason: {}\n{}",
             Subject(self.fault),
             Refusal::from(self.fault),
-            reason_of(self.fault, self.length),
+            self.reason(),
             Verdict::Stays
         )
     }
@@ -119,7 +129,7 @@ impl fmt::Display for Subject {
 
     fn fmt<W: fmt::Write>(&self, f: &mut fmt::Formatter<W>) -> fmt::Result {
         match self.0 {
-            CheckFault::Day(refused) => write!(f, "{}", refused.day),
+            CheckFault::Day(refused) => refused.day.fmt(f),
             CheckFault::Save(_) => f.write_str("A save"),
         }
     }
