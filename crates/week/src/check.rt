@@ -7,7 +7,7 @@ use crate::week::Week;
 use kinds::fault::ContentFault;
 use kinds::kind::Kind;
 
-// The release check: loads a week, saves it twice, and compares the saves. A refused week saves nothing.
+/// The release check: loads a week, saves it twice, and compares the saves. A refused week saves nothing.
 // The slices for the saves are two parameters and no struct, as they are the caller's, lent to be written.
 pub fn check_week<K: Kind>(
     bytes: &[u8],

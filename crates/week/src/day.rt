@@ -17,7 +17,7 @@ pub enum Day {
     Sunday,
 }
 
-// The first day of a week whose bytes its kind refuses, and the kind's fault.
+/// The first day of a week whose bytes its kind refuses, and the kind's fault.
 #[derive(Clone, Copy, PartialEq, Eq, Debug)]
 pub struct RefusedDay {
     pub day: Day,
@@ -25,7 +25,7 @@ pub struct RefusedDay {
 }
 
 impl Day {
-    // The days of a week in order.
+    /// The days of a week in order.
     pub const ALL: [Day; 7] = [
         Day::Monday,
         Day::Tuesday,
@@ -36,7 +36,7 @@ impl Day {
         Day::Sunday,
     ];
 
-    // The day at a place of the week, for numbers from outside: every place from 6 on is Sunday.
+    /// The day at a place of the week, for numbers from outside: every place from 6 on is Sunday.
     pub fn at_or_last(i: usize) -> Day
         ensures index { i < 7 → day_index result ≡ i }
         ensures item { result ≡ slice_index_or week_days i Sunday }
@@ -44,7 +44,7 @@ impl Day {
         Day::ALL.get(i).copied().unwrap_or(Day::Sunday)
     }
 
-    // Beside `Display`, since it cannot fail.
+    /// Beside `Display`, since it cannot fail.
     pub fn name(self) -> &'static str
         ensures { result.now ≡ day_text self }
     {

@@ -4,8 +4,8 @@ ghost use Rattle.week.specs.Drawing.{sign_of, hours_in};
 use kinds::row::{DayRow, HourMode};
 use std::fmt;
 
-// How an hour is drawn: a dot for off, a dash for low, a hash for comfort. A function, since neither
-// type is of this crate, and so no `From` can stand here.
+/// How an hour is drawn: a dot for off, a dash for low, a hash for comfort.
+// A function, since neither type is of this crate, and so no `From` can stand here.
 pub fn sign(mode: HourMode) -> char
     ensures { result ≡ sign_of mode }
 {
@@ -16,14 +16,14 @@ pub fn sign(mode: HourMode) -> char
     }
 }
 
-// How many hours of the day are in a mode.
+/// How many hours of the day are in a mode.
 pub fn hours_in(row: &DayRow, mode: HourMode) -> usize
     ensures { result ≡ hours_in mode row.now.hours }
 {
     row.hours.iter().filter(|&&hour| hour == mode).count()
 }
 
-// A day as 24 characters, midnight first.
+/// A day as 24 characters, midnight first.
 #[derive(Clone, Copy)]
 pub struct Drawn<'a>(pub &'a DayRow);
 

@@ -6,7 +6,7 @@ use crate::day::RefusedDay;
 use kinds::fault::ContentFault;
 use refusal::Refusal;
 
-// Why a week was not checked: a day's bytes are refused, or a slice for a save is not as long as the week.
+/// Why a week was not checked: a day's bytes are refused, or a slice for a save is not as long as the week.
 #[derive(Clone, Copy, PartialEq, Eq, Debug)]
 pub enum CheckFault {
     Day(RefusedDay),
@@ -31,7 +31,7 @@ impl From<ContentFault> for CheckFault {
 }
 
 impl CheckFault {
-    // The kind's own fault inside.
+    /// The kind's own fault inside.
     pub fn content(&self) -> ContentFault
         ensures { result ≡ content_of self.now }
     {

@@ -4,23 +4,23 @@ ghost use Rattle.week.specs.Reason.{reason_of, reason_text};
 use crate::fault::CheckFault;
 use std::fmt;
 
-// Why a week of day rows is refused.
+/// Why a week of day rows is refused.
 #[derive(Clone, Copy, PartialEq, Eq, Debug)]
 pub enum Reason {
-    // an hour of the day is 3
+    /// An hour of the day is 3.
     BadHour,
-    // the week ends after so many bytes
+    /// The week ends after so many bytes.
     Short(usize),
-    // bytes follow the last day
+    /// Bytes follow the last day.
     Long,
-    // the slice for a save is not as long as the week
+    /// The slice for a save is not as long as the week.
     SaveLength,
 }
 
-// Seven day rows.
+/// Seven day rows.
 pub const WEEK_BYTES: usize = 42;
 
-// Why a week of day rows, of which so many bytes were read, is refused.
+/// Why a week of day rows, of which so many bytes were read, is refused.
 pub fn reason_of(fault: CheckFault, length: usize) -> Reason
     ensures { result ≡ reason_of fault length }
 {

@@ -14,7 +14,7 @@ use kinds::row::{DayRow, HourMode};
 use refusal::Refusal;
 use std::fmt;
 
-// One day of the week: its hours drawn, its name, and how many hours are comfort and low.
+/// One day of the week: its hours drawn, its name, and how many hours are comfort and low.
 #[derive(Clone, Copy)]
 pub struct DayLine<'a> {
     pub day: Day,
@@ -51,7 +51,7 @@ impl fmt::Display for DayLines<'_> {
     }
 }
 
-// A week and its two saves: what a report on them says before its verdict.
+/// A week and its two saves: what a report on them says before its verdict.
 #[derive(Clone, Copy)]
 pub struct Saved<'a> {
     pub week: &'a Week<DayRow>,
@@ -73,7 +73,7 @@ impl fmt::Display for Saved<'_> {
     }
 }
 
-// A week that was accepted, its two saves, and what is said of them.
+/// A week that was accepted, its two saves, and what is said of them.
 #[derive(Clone, Copy)]
 pub struct Accepted<'a> {
     pub saved: Saved<'a>,
@@ -89,7 +89,7 @@ impl fmt::Display for Accepted<'_> {
     }
 }
 
-// A week that was refused, with the number of bytes that were read of it.
+/// A week that was refused, with the number of bytes that were read of it.
 #[derive(Clone, Copy)]
 pub struct Refused {
     pub fault: CheckFault,

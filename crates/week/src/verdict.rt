@@ -7,14 +7,14 @@ use crate::week::Week;
 use std::fmt;
 use std::process::ExitCode;
 
-// What the release check says of a build.
+/// What the release check says of a build.
 #[derive(Clone, Copy, PartialEq, Eq, Debug)]
 pub enum Verdict {
     MayLeave,
     Stays,
 }
 
-// A week that was accepted and saved twice, with what is said of the saves.
+/// A week that was accepted and saved twice, with what is said of the saves.
 #[derive(Drop)]
 pub struct Checked<K> {
     pub week: Week<K>,
@@ -22,7 +22,7 @@ pub struct Checked<K> {
 }
 
 impl Verdict {
-    // Beside `Display`, since it cannot fail.
+    /// Beside `Display`, since it cannot fail.
     pub fn words(self) -> &'static str
         ensures { result.now ≡ verdict_text self }
     {

@@ -43,7 +43,8 @@ impl<K: Kind> Week<K> {
     pub fn load(bytes: &[u8]) -> Result<Week<K>, RefusedDay>
         ensures { Loads K.Kind bytes.now result }
     {
-        // `try_map` does not say that the day at which it stops is the first that is refused.
+        // `try_map` does not say that the day at which it stops is the first that is refused. By day: after
+        // `iter_mut().zip(..)` a proof knows nothing of `days`, and `enumerate` would read Monday twice.
         let mut days = [Self::load_day(bytes, Day::Monday)?; 7];
         for &day in &Day::ALL[1..] {
             days[usize::from(day)] = Self::load_day(bytes, day)?;
