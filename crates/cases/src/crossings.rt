@@ -12,7 +12,8 @@ use std::process::Abort;
 use std::test::Fail;
 use week::week::Week;
 
-// A crossing, the days in the order in which they are taken, and what the last place gives at first.
+// A crossing, the days in the order in which they are taken, and what the last place gives at
+// first.
 struct Case {
     order: Order,
     taken: [usize; 7],
@@ -66,7 +67,8 @@ static VALVES: [u8; 28] = [
     0, 0, 0,
 ];
 
-// Once for rows and once for valves: one generic test would owe that a crossing of any content fits into memory.
+// Once for rows and once for valves: one generic test would owe that a crossing of any content fits
+// into memory.
 #[test]
 fn rows(rt: HostRuntime) -> Result<(), Fail> {
     let week = Week::<DayRow>::load(&ROWS)?;

@@ -12,8 +12,8 @@ use refusal::{Layer, Place, Refusal};
 use std::process::Abort;
 use std::test::Fail;
 
-// The sender and the receiver of each sample. 4 and 7 are the way back of 0; 1 has its sender alone,
-// and 5 its receiver alone.
+// The sender and the receiver of each sample. 4 and 7 are the way back of 0; 1 has its sender
+// alone, and 5 its receiver alone.
 static LANES: [(usize, usize); 8] = [
     (0, 1),
     (0, 2),
@@ -38,7 +38,8 @@ fn sample(content: u8) -> Message<u8> {
     }
 }
 
-// An empty network accepts exactly as many messages as its capacity, and one more once one is taken.
+// An empty network accepts exactly as many messages as its capacity, and one more once one is
+// taken.
 fn fills<N: Network<u8>>(rt: &impl Abort, network: &mut N, capacity: u16) {
     assert_eq!(rt; network.capacity(), capacity);
     assert_eq!(rt; network.count(), 0);
@@ -63,22 +64,19 @@ static CAPACITIES: [u16; 4] = [0, 1, 7, 65535];
 
 #[test]
 fn capacities(rt: HostRuntime) -> Result<(), Fail> {
-    for capacity in &CAPACITIES {
+    for &capacity in &CAPACITIES {
         fills(
             &rt,
-            &mut Queue::new(rt.alloc(), *capacity, OpenBus)?,
-            *capacity,
+            &mut Queue::new(rt.alloc(), capacity, OpenBus)?,
+            capacity,
         );
-        fills(
-            &rt,
-            &mut Queue::new(rt.alloc(), *capacity, Lanes)?,
-            *capacity,
-        );
+        fills(&rt, &mut Queue::new(rt.alloc(), capacity, Lanes)?, capacity);
     }
     Ok(())
 }
 
-// A take, its answer, what then waits, and what of that is ready; messages are named by their contents.
+// A take, its answer, what then waits, and what of that is ready; messages are named by their
+// contents.
 struct Step {
     place: usize,
     answer: Result<u8, NetworkFault>,
@@ -88,9 +86,9 @@ struct Step {
 
 fn waits<N: Network<u8>>(rt: &impl Abort, network: &N, step: &Step) {
     assert_eq!(rt; network.count(), step.waiting.len());
-    for (place, content) in step.waiting.iter().enumerate() {
-        assert_eq!(rt; network.message(place), Ok(sample(*content)));
-        assert_eq!(rt; network.is_ready(place), Ok(step.ready.contains(content)));
+    for (place, &content) in step.waiting.iter().enumerate() {
+        assert_eq!(rt; network.message(place), Ok(sample(content)));
+        assert_eq!(rt; network.is_ready(place), Ok(step.ready.contains(&content)));
     }
 }
 
@@ -317,11 +315,11 @@ struct Over<N> {
 }
 
 impl<C: Copy, N: Network<C>> Network<C> for Over<N> {
-    ghost waiting = { λ n. N.Network.waiting n.below };
+    ghost waiting = { λ n. N.waiting n.below };
 
-    ghost capacity = { λ n. N.Network.capacity n.below };
+    ghost capacity = { λ n. N.capacity n.below };
 
-    ghost ready = { N.Network.ready };
+    ghost ready = { N.ready };
 
     ghost bounded = { Prim.search rules };
 
@@ -343,11 +341,12 @@ impl<C: Copy, N: Network<C>> Network<C> for Over<N> {
         self.below.is_ready(place)
     }
 
-    // The trait's clauses, spelled out for a layer: the check asks for them here.
+    // The trait's clauses again: the check does not give them where a `Message<C>` is passed by value.
     fn post(&mut self, message: Message<C>) -> Result<(), NetworkFault>
-        ensures value { result ≡ post_answer (N.Network.capacity self.old.below) (N.Network.waiting self.old.below) }
-        ensures after { N.Network.waiting self.new.below ≡ post_after (N.Network.capacity self.old.below) (N.Network.waiting self.old.below) message }
-        ensures fixed { N.Network.capacity self.new.below ≡ N.Network.capacity self.old.below }
+        ensures value { result ≡ post_answer (N.capacity self.old.below) (N.waiting self.old.below) }
+        ensures after { N.waiting self.new.below
+            ≡ post_after (N.capacity self.old.below) (N.waiting self.old.below) message }
+        ensures fixed { N.capacity self.new.below ≡ N.capacity self.old.below }
     {
         self.below.post(message)
     }

@@ -1,12 +1,11 @@
 -- The days of a week as they arrive, whatever the order in which they are taken.
-use Rattle.std.proofs.Common.{◌≡◌, ℕ, zero, suc, ◌+◌, ◌<◌, ◌≤◌, Bool, List, [], ◌∷◌, ◌++◌, length, take, set, None, Some, sym, refl, ap, ◌∙◌, subst, append_assoc, append-nil, arith, length-set}
+use Rattle.std.proofs.Common.{◌≡◌, ℕ, zero, suc, ◌+◌, ◌<◌, ◌≤◌, Bool, List, [], ◌∷◌, ◌++◌, length, remove, take, set, None, Some, sym, refl, ap, ◌∙◌, subst, append_assoc, append-nil, arith, length-set}
 use Rattle.std.proofs.lemmas.List.{length-map, set_comm, take_all, take_more_set}
 use Rattle.std.proofs.Math.Seq.{take-suc-set}
 use Rattle.std.proofs.lemmas.List.Edits.{length-remove}
 use Rattle.std.proofs.lemmas.Option.{none-some, same_Some, slice_get_within, slice_get_cases}
 use Rattle.std.specs.List.{slice_get}
 use Rattle.network.specs.declared.message.Message.{Message}
-use Rattle.network.specs.Waiting.{without}
 use Rattle.crossing.specs.declared.crossing.Order.{Order}
 use Rattle.crossing.specs.Crossing.{week_messages, contents, next_place, arrivals}
 use Rattle.crossing.proofs.Places.{next_within}
@@ -40,7 +39,7 @@ module _ {K : Type 0} where
   later d e (m ∷ ms) h rising = grind arith
 
   -- and still rise once one was taken
-  rising_rest : (d : ℕ) (ms : List (Message K)) (k : ℕ) → Rising d ms → Rising d (without ms k)
+  rising_rest : (d : ℕ) (ms : List (Message K)) (k : ℕ) → Rising d ms → Rising d (remove ms k)
   rising_rest d [] zero rising = tt
   rising_rest d [] (suc k) rising = tt
   rising_rest d (m ∷ ms) zero rising = later d (suc m.block) ms (omega (arith, rising.0)) rising.2
@@ -53,12 +52,12 @@ module _ {K : Type 0} where
   block_within d (x ∷ ms) (suc k) m at rising = grind (arith, block_within (suc x.block) ms k m)
 
   -- a message that is taken, and put at its day, changes nothing of what will have come
-  arrives : (d : ℕ) (days : List K) (ms : List (Message K)) (k : ℕ) (m : Message K) → slice_get ms k ≡ Some m → Rising d ms → arrived (set days m.block m.content) (without ms k) ≡ arrived days ms
+  arrives : (d : ℕ) (days : List K) (ms : List (Message K)) (k : ℕ) (m : Message K) → slice_get ms k ≡ Some m → Rising d ms → arrived (set days m.block m.content) (remove ms k) ≡ arrived days ms
   arrives d days [] k m at rising = absurd (none-some m at)
   arrives d days (x ∷ ms) zero m at rising = ap (λ n. arrived (set days n.block n.content) ms) (sym (same_Some x m at))
   arrives d days (x ∷ ms) (suc k) m at rising =
       let behind = block_within (suc x.block) ms k m at rising.2 in
-      ap (λ ds. arrived ds (without ms k)) (set_comm days m.block x.block m.content x.content (λ same. omega arith)) ∙ arrives (suc x.block) (set days x.block x.content) ms k m at rising.2
+      ap (λ ds. arrived ds (remove ms k)) (set_comm days m.block x.block m.content x.content (λ same. omega arith)) ∙ arrives (suc x.block) (set days x.block x.content) ms k m at rising.2
 
 module _ {K : Type 0} (order : Order) (ready : List (Message K) → ℕ → Bool) (all : List (Message K)) where
   -- what holds after i messages were taken, of which `all` are the seven at first
@@ -83,10 +82,10 @@ module _ {K : Type 0} (order : Order) (ready : List (Message K) → ℕ → Bool
 
   -- one message is taken, and put at its day
   pub takes : (ms : List (Message K)) (i : ℕ) (days : List K) (taken : List ℕ) (m : Message K) → Underway ms i days taken → i < 7
-      → slice_get ms (next_place order ready ms) ≡ Some m → Underway (without ms (next_place order ready ms)) (i + 1) (set days m.block m.content) (set taken i m.block)
+      → slice_get ms (next_place order ready ms) ≡ Some m → Underway (remove ms (next_place order ready ms)) (i + 1) (set days m.block m.content) (set taken i m.block)
   takes ms i days taken m u h at =
       let k = next_place order ready ms in
-      let rest = without ms k in
+      let rest = remove ms k in
       let less : length ms ≡ suc (length rest) = omega (arith, length-remove ms k (slice_get_within ms k m at)) in
       let next : arrivals order ready (length ms) ms ≡ m.block ∷ arrivals order ready (length rest) rest = rw (less, at) refl in
       let here : i < length taken = omega (arith, u.counted) in

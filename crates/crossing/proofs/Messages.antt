@@ -1,5 +1,5 @@
 -- A week's messages, posted one at a time.
-use Rattle.std.proofs.Common.{◌≡◌, ℕ, suc, ◌+◌, ◌<◌, ◌≤◌, Bool, if◌then◌else◌, Some, None, List, [], ◌∷◌, ◌++◌, length, length-append, length-drop, get_or, drop, Ok, refl, ap, add-one, arith, append_assoc, drop-cons, lt-ltb}
+use Rattle.std.proofs.Common.{◌≡◌, ℕ, suc, ◌+◌, ◌<◌, ◌≤◌, Bool, if◌then◌else◌, Some, None, List, [], ◌∷◌, ◌++◌, length, length-append, length-drop, drop, Ok, refl, ap, add-one, arith, append_assoc, drop-cons, lt-ltb, slice_index_or}
 use Rattle.std.proofs.lemmas.Bool.Decides.{nat_tests}
 use Rattle.std.proofs.lemmas.Option.{slice_get_cases}
 use Rattle.std.specs.Result.{result_err}
@@ -27,12 +27,12 @@ module _ {K : Type 0} where
 
   -- the next day is posted behind those before it, where there is room for seven
   pub post_one : (days : List K) (day posted : ℕ) (waiting : List (Message K)) (room capacity : ℕ) (x : K) → length days ≡ 7 → 7 ≤ room → day < 7 → Sending days day posted waiting room capacity
-      → (post_answer capacity waiting ≡ Ok tt) × Sending days (day + 1) (posted + 1) (post_after capacity waiting (day_message day (get_or days day x))) room capacity
+      → (post_answer capacity waiting ≡ Ok tt) × Sending days (day + 1) (posted + 1) (post_after capacity waiting (day_message day (slice_index_or days day x))) room capacity
   post_one days day posted waiting room capacity x seven fits more sent =
       let long : length waiting ≡ day = omega (arith, ap length sent.whole, length-append waiting (week_messages day (drop day days)), week_long 0 days, week_long day (drop day days), length-drop day days) in
       let ok : post_answer capacity waiting ≡ Ok tt = simp (lt-ltb (length waiting) capacity (omega (arith, sent.fixed))) in
       let here : day < length days = omega arith in
-      let next : week_messages day (drop day days) ≡ day_message day (get_or days day x) ∷ week_messages (day + 1) (drop (day + 1) days) = rw (add-one, drop-cons days day x) refl in
+      let next : week_messages day (drop day days) ≡ day_message day (slice_index_or days day x) ∷ week_messages (day + 1) (drop (day + 1) days) = rw (add-one, drop-cons days day x) refl in
       (ok, record { counted = omega (arith, sent.counted); whole = rw (ok, append_assoc) (rw next at sent.whole); fixed = sent.fixed })
 
   -- with all seven waiting, one more is refused, and so is the place behind the last

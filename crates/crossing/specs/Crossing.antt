@@ -1,11 +1,10 @@
 -- A week's contents as messages, and the order in which they are taken off a network.
-use Rattle.std.specs.Prelude.{◌≡◌, ℕ, zero, suc, ◌+◌, ◌-◌, ◌%◌, Bool, true, IsTrue, if◌then◌else◌, ◌&&◌, List, [], ◌∷◌, map, length, Some, None, Ok, Err, Option, Result, slice_get}
+use Rattle.std.specs.Prelude.{◌≡◌, ℕ, zero, suc, ◌+◌, ◌-◌, ◌%◌, Bool, true, IsTrue, if◌then◌else◌, ◌&&◌, List, [], ◌∷◌, map, length, remove, Some, None, Ok, Err, Option, Result, slice_get}
 use Rattle.network.specs.declared.fault.NetworkFault.{NetworkFault}
 use Rattle.network.specs.declared.fault.NetworkFault.TheVariants.{NoPlace, NotReady, Full, NoMemory}
 use Rattle.network.specs.declared.message.Message.{Message}
 use Rattle.network.specs.declared.message.MessageKind.TheVariants.{Put}
 use Rattle.network.specs.Lanes.{is_first_on_lane}
-use Rattle.network.specs.Waiting.{without}
 use Rattle.week.specs.declared.verdict.Verdict.{Verdict}
 use Rattle.week.specs.declared.verdict.Verdict.TheVariants.{Stays}
 use Rattle.crossing.specs.declared.crossing.Crossing.{Crossing}
@@ -44,7 +43,7 @@ module _ {K : Type 0} where
   -- the days in the order in which n messages are taken
   abbrev pub arrivals : Order → (List (Message K) → ℕ → Bool) → ℕ → List (Message K) → List ℕ
   arrivals order ready zero ms = []
-  arrivals order ready (suc n) ms = block_of (slice_get ms (next_place order ready ms)) ∷ arrivals order ready n (without ms (next_place order ready ms))
+  arrivals order ready (suc n) ms = block_of (slice_get ms (next_place order ready ms)) ∷ arrivals order ready n (remove ms (next_place order ready ms))
 
 -- what is seen of a week with these days that crosses a network for seven messages
 pub record Crosses {K : Type 0} (order : Order) (ready : List (Message K) → ℕ → Bool) (days : List K) (c : Crossing K) : Type 0 where

@@ -55,7 +55,7 @@ fn cross_over<K: Kind, N: Network<K>>(network: &mut N, week: &Week<K>, order: Or
     }
 }
 
-// Sends a week over a network of its own, and says what was seen.
+/// Sends a week over a network of its own, and says what was seen.
 pub fn cross<K: Kind, R: Readiness<K>>(
     heap: Global,
     readiness: R,
@@ -68,7 +68,7 @@ pub fn cross<K: Kind, R: Readiness<K>>(
     Ok(cross_over(&mut network, week, order))
 }
 
-// Sends a week over the lanes in both orders, and over the open bus, the newest first.
+/// Sends a week over the lanes in both orders, and over the open bus, the newest first.
 pub fn cross_all<K: Kind>(heap: Global, week: &Week<K>) -> Result<Crossings<K>, NetworkFault>
     ensures { CrossesAll week.now.days result }
 {
@@ -83,7 +83,7 @@ pub fn cross_all<K: Kind>(heap: Global, week: &Week<K>) -> Result<Crossings<K>, 
 }
 
 impl<K> Crossings<K> {
-    // The verdict on a build, given that on its saves: it stays if a week did not arrive equal.
+    /// The verdict on a build, given that on its saves: it stays if a week did not arrive equal.
     pub fn verdict(&self, saves: Verdict) -> Verdict
         ensures { result ≡ verdict_after saves self.now }
     {

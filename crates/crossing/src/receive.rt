@@ -1,6 +1,5 @@
-ghost use Rattle.std.specs.Prelude.{◌≡◌, ◌-◌, ◌<◌, [], length, slice_get, slice_set};
+ghost use Rattle.std.specs.Prelude.{◌≡◌, ◌-◌, ◌<◌, [], length, remove, slice_get, slice_set};
 ghost use Rattle.std.specs.Option.{SomeIff};
-ghost use Rattle.network.specs.Waiting.{without};
 ghost use Rattle.crossing.specs.Crossing.{week_messages, contents, last_ready, next_place, arrivals};
 
 use crate::crossing::Order;
@@ -31,13 +30,13 @@ fn take_next<K: Copy, N: Network<K>>(network: &mut N, order: Order) -> Option<Me
     ensures value { let messages = N.waiting network.old in
         result ≡ slice_get messages (next_place order N.ready messages) }
     ensures after { let messages = N.waiting network.old in
-        N.waiting network.new ≡ without messages (next_place order N.ready messages) }
+        N.waiting network.new ≡ remove messages (next_place order N.ready messages) }
 {
     network.take(next_place(network, order)?).ok()
 }
 
-// Puts a message's content at its day. A function of its own, since the check knows of an array of any
-// content that it is small enough to be indexed only where it is behind a reference.
+// Puts a message's content at its day. A function of its own, since the check knows of an array of
+// any content that it is small enough to be indexed only where it is behind a reference.
 fn put<K: Copy>(days: &mut [K; 7], message: &Message<K>)
     requires { message.now.block < 7 }
     ensures { days.new ≡ slice_set days.old message.now.block message.now.content }
@@ -45,8 +44,8 @@ fn put<K: Copy>(days: &mut [K; 7], message: &Message<K>)
     days[message.block] = message.content;
 }
 
-// Takes all seven messages, and answers each content at its day and the order in which the days were
-// taken. Until its message comes, a day is blank.
+// Takes all seven messages, and answers each content at its day and the order in which the days
+// were taken. Until its message comes, a day is blank.
 pub(crate) fn receive<K: Copy, N: Network<K>>(
     network: &mut N,
     order: Order,

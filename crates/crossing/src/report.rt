@@ -11,7 +11,7 @@ use week::report::Saved;
 use week::verdict::Verdict;
 
 impl Order {
-    // Beside `Display`, since it cannot fail.
+    /// Beside `Display`, since it cannot fail.
     pub fn words(self) -> &'static str
         ensures { result.now ≡ order_text self }
     {
@@ -124,7 +124,7 @@ impl<K> fmt::Display for Counts<'_, K> {
     }
 }
 
-// What was seen of a week that crossed the network of this name.
+/// What was seen of a week that crossed the network of this name.
 #[derive(Clone, Copy)]
 pub struct Seen<'a, K> {
     pub network: &'a str,
@@ -148,17 +148,18 @@ impl<K> fmt::Display for Seen<'_, K> {
     }
 }
 
-// The report on a week that was accepted and saved twice.
+/// The report on a week that was accepted and saved twice.
 #[derive(Clone, Copy)]
 pub struct Report<'a> {
     pub saved: Saved<'a>,
     pub crossings: &'a Crossings<DayRow>,
-    // the verdict on the saves
+    /// the verdict on the saves
     pub saves: Verdict,
 }
 
 impl fmt::Display for Report<'_> {
-    ghost output = { λ r. Some (report_text r.saved.week.now r.saved.first.now r.saved.second.now r.crossings.now r.saves) };
+    ghost output = { λ r. Some (report_text r.saved.week.now r.saved.first.now r.saved.second.now
+        r.crossings.now r.saves) };
 
     fn fmt<W: fmt::Write>(&self, f: &mut fmt::Formatter<W>) -> fmt::Result {
         let straight = Seen {

@@ -28,7 +28,7 @@ pub(crate) fn send<K: Copy, N: Network<K>>(network: &mut N, week: &Week<K>) -> u
     ensures after { N.waiting network.new ≡ week_messages 0 week.now.days }
     ensures fixed { N.capacity network.new ≡ N.capacity network.old }
 {
-    // A loop and no count of a chain: of a closure that posts, the check would not know what it posted.
+    // A loop and no count of a chain: the check would not know what a closure posted.
     let mut posted = 0;
     for (day, content) in week.days.iter().enumerate() {
         if network.post(day_message(day, *content)).is_ok() {

@@ -1,11 +1,11 @@
 -- What every run of a network keeps.
 use Rattle.std.proofs.Common.{◌≡◌, ℕ, zero, suc, ◌+◌, ◌≤◌, Bool, IsTrue, if◌then◌else◌, List, [], ◌∷◌, ◌++◌, length, take, drop, Some, Ok, count_by, refl, append_assoc, append-nil, arith, length-append, length-drop, length-take}
-use Rattle.std.specs.List.{slice_get}
+use Rattle.std.specs.List.{remove, slice_get}
 use Rattle.std.proofs.lemmas.List.Sums.{sum_by-append}
 use Rattle.std.proofs.lemmas.List.Elements.{filter-append}
 use Rattle.std.proofs.lemmas.Bool.Decides.{nat_tests}
 use Rattle.network.specs.declared.message.Message.{Message}
-use Rattle.network.specs.Waiting.{take_answer, without}
+use Rattle.network.specs.Waiting.{take_answer}
 use Rattle.network.specs.Lanes.{from_to, lane_free, is_first_on_lane}
 use Rattle.network.specs.Runs.{Call, Traffic, nothing, step, run, on_lane, Balanced, LanesKeepOrder}
 use Rattle.network.specs.Runs.Call.{post, take as take_at}
@@ -38,7 +38,7 @@ module _ {M : Type 0} (cap : ℕ) (ready : List M → ℕ → Bool) where
       (passes : (ms : List M) (k : ℕ) (m : M) → IsTrue (ready ms k) → slice_get ms k ≡ Some m → F (take k ms) · F (m ∷ []) ≡ F (m ∷ []) · F (take k ms)) where
     infixl 20 ◌·◌
     -- a message that is taken counts as the first
-    taken_first : (ms : List M) (k : ℕ) (m : M) → take_answer ready ms k ≡ Ok m → F ms ≡ F (m ∷ []) · F (without ms k)
+    taken_first : (ms : List M) (k : ℕ) (m : M) → take_answer ready ms k ≡ Ok m → F ms ≡ F (m ∷ []) · F (remove ms k)
     taken_first ms k m e =
         let w = was_ready ms k m e in
         let whole = parts ms k m w.1 in

@@ -30,10 +30,6 @@ module _ {M : Type 0} where
   abbrev pub ready_at : (List M → ℕ → Bool) → List M → ℕ → Result Bool NetworkFault
   ready_at ready ms k = if nat_lt k (length ms) then Ok (ready ms k) else Err (NoPlace k)
 
-  -- the list without its message at place k
-  abbrev pub without : List M → ℕ → List M
-  without ms k = remove ms k
-
   abbrev pub post_answer : ℕ → List M → Result (Unit {0}) NetworkFault
   post_answer cap ms = if nat_lt (length ms) cap then Ok tt else Err Full
 
@@ -46,4 +42,4 @@ module _ {M : Type 0} where
       if nat_lt k (length ms) then (if ready ms k then message_at ms k else Err (NotReady k)) else Err (NoPlace k)
 
   abbrev pub take_after : (List M → ℕ → Bool) → List M → ℕ → List M
-  take_after ready ms k = if_accepted (take_answer ready ms k) (without ms k) ms
+  take_after ready ms k = if_accepted (take_answer ready ms k) (remove ms k) ms

@@ -5,16 +5,16 @@ ghost use Rattle.network.specs.Fault.{refusal_of};
 use refusal::{Layer, Place, Refusal};
 use std::alloc::AllocError;
 
-// Why a network refused.
+/// Why a network refused.
 #[derive(Clone, Copy, PartialEq, Eq, Debug)]
 pub enum NetworkFault {
-    // no message waits at this place
+    /// no message waits at this place
     NoPlace(usize),
-    // the message at this place is not ready
+    /// the message at this place is not ready
     NotReady(usize),
-    // as many messages wait as the network holds
+    /// as many messages wait as the network holds
     Full,
-    // the network could not be made for want of memory
+    /// the network could not be made for want of memory
     NoMemory,
 }
 

@@ -5,7 +5,7 @@ ghost use Rattle.std.proofs.Common.{rules};
 use crate::message::Message;
 use crate::readiness::Readiness;
 
-// On the lanes a message can be taken once no earlier one with the same sender and receiver waits.
+/// On the lanes a message can be taken once no earlier one with the same sender and receiver waits.
 #[derive(Clone, Copy)]
 pub struct Lanes;
 

@@ -4,7 +4,7 @@ ghost use Rattle.std.proofs.Common.{rules};
 use crate::message::Message;
 use crate::readiness::Readiness;
 
-// On the open bus every waiting message can be taken.
+/// On the open bus every waiting message can be taken.
 #[derive(Clone, Copy)]
 pub struct OpenBus;
 

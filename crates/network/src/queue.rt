@@ -8,8 +8,8 @@ use crate::network::Network;
 use crate::readiness::Readiness;
 use std::alloc::Global;
 
-// Messages in the order of posting, with the memory for all that can ever wait, and what says which of
-// them are ready. One is added at the end, and taken at any place that is ready.
+/// Messages in the order of posting, with the memory for all that can ever wait, and what says which
+/// of them are ready. One is added at the end, and taken at any place that is ready.
 #[derive(Drop)]
 pub struct Queue<C: Copy, R: Copy> {
     items: Vec<Message<C>>,
@@ -24,7 +24,7 @@ pub struct Queue<C: Copy, R: Copy> {
 impl<C: Copy, R: Readiness<C>> Queue<C, R> {
     ghost use Rattle.network.specs.Queue.{waiting_in, capacity_of};
 
-    // An empty network. Its memory is set aside here, so that posting never fails for want of it.
+    /// An empty network. Its memory is set aside here, so that posting never fails for want of it.
     pub fn new(heap: Global, capacity: u16, readiness: R) -> Result<Queue<C, R>, NetworkFault>
         ensures { Made waiting_in capacity_of capacity result }
     {
@@ -66,14 +66,14 @@ impl<C: Copy, R: Readiness<C>> Network<C> for Queue<C, R> {
     }
 
     fn is_ready(&self, place: usize) -> Result<bool, NetworkFault> {
-        self.message(place)?;
-        Ok(R::ready(&self.items, place))
+        self.message(place).map(|_| R::ready(&self.items, place))
     }
 
-    // The trait's clauses again: the check does not yet give them where a `Message<C>` is passed by value.
+    // The trait's clauses again: the check does not give them where a `Message<C>` is passed by value.
     fn post(&mut self, message: Message<C>) -> Result<(), NetworkFault>
         ensures value { result ≡ post_answer (capacity_of self.old) (waiting_in self.old) }
-        ensures after { waiting_in self.new ≡ post_after (capacity_of self.old) (waiting_in self.old) message }
+        ensures after { waiting_in self.new
+            ≡ post_after (capacity_of self.old) (waiting_in self.old) message }
         ensures fixed { capacity_of self.new ≡ capacity_of self.old }
     {
         if self.items.len() < self.capacity as usize {

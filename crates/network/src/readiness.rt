@@ -4,7 +4,7 @@ ghost use Rattle.network.specs.Waiting.{Progress};
 
 use crate::message::Message;
 
-// All in which one network differs from another: which of the waiting messages can be taken.
+/// All in which one network differs from another: which of the waiting messages can be taken.
 pub trait Readiness<C>: Copy {
     ghost ready: { List (Sent C) → ℕ → Bool };
 

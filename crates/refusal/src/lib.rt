@@ -1,4 +1,5 @@
-// What every refusal names: the layer that refused, its number in the table of refusals, and a place.
+// What every refusal names: the layer that refused, its number in the table of refusals, and a
+// place.
 #![tactic(auto)]
 
 ghost use Rattle.std.specs.Prelude.{Some};
@@ -6,7 +7,7 @@ ghost use Rattle.refusal.specs.Text.{layer_text, place_text, refusal_text};
 
 use std::fmt;
 
-// The libraries that refuse, from the bottom up.
+/// The libraries that refuse, from the bottom up.
 #[derive(Clone, Copy, PartialEq, Eq, Debug)]
 pub enum Layer {
     Kind,
@@ -14,21 +15,22 @@ pub enum Layer {
     House,
 }
 
-// Where a refusal happened. A refusal that has no place of its own names 0.
+/// Where a refusal happened. A refusal that has no place of its own names 0.
 #[derive(Clone, Copy, PartialEq, Eq, Debug)]
 pub enum Place {
     Zero,
-    // a place in the list of waiting messages
+    /// a place in the list of waiting messages
     Waiting(usize),
-    // one board's record of one block
+    /// one board's record of one block
     Entry { board: usize, block: usize },
 }
 
-// A line of the table of refusals. Each layer's fault converts into its line by `From`.
+/// A line of the table of refusals. Each layer's fault converts into its line by `From`.
 #[derive(Clone, Copy, PartialEq, Eq, Debug)]
 pub struct Refusal {
     pub layer: Layer,
-    // as in the table that users look up, with its gaps; in code the case of a fault says which refusal it is
+    /// as in the table that users look up, with its gaps; in code the case of a fault says which
+    /// refusal it is
     pub number: u8,
     pub place: Place,
 }
@@ -50,7 +52,7 @@ impl fmt::Display for Place {
 
     fn fmt<W: fmt::Write>(&self, f: &mut fmt::Formatter<W>) -> fmt::Result {
         match self {
-            Place::Zero => write!(f, "0"),
+            Place::Zero => f.write_str("0"),
             Place::Waiting(at) => write!(f, "{at}"),
             Place::Entry { board, block } => write!(f, "board {board}, block {block}"),
         }

@@ -16,10 +16,8 @@ const MOST: u64 = WEEK_BYTES as u64 + 1;
 // The bytes of the file that the first argument names, or else of standard input.
 fn input(rt: &HostRuntime) -> io::Result<Vec<u8>> {
     let mut bytes = Vec::new(rt.alloc());
-    let _count = match env::args(rt)?.nth(1) {
-        Some(path) => fs::open(rt, path.as_str())?
-            .take(MOST)
-            .read_to_end(&mut bytes)?,
+    match env::args(rt)?.nth(1) {
+        Some(path) => fs::open(rt, &path)?.take(MOST).read_to_end(&mut bytes)?,
         None => rt.stdin().take(MOST).read_to_end(&mut bytes)?,
     };
     Ok(bytes)
@@ -53,7 +51,7 @@ fn check(rt: &HostRuntime, bytes: &[u8]) -> io::Result<Verdict> {
 
 fn main(rt: HostRuntime) -> io::Result<ExitCode> {
     let verdict = match input(&rt) {
-        Ok(bytes) => check(&rt, bytes.as_slice())?,
+        Ok(bytes) => check(&rt, &bytes)?,
         Err(e) => {
             println!(rt; "The week cannot be read: {e}")?;
             rt.println(Verdict::Stays)?;
