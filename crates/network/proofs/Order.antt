@@ -8,7 +8,7 @@ use Rattle.network.specs.declared.message.Message.{Message}
 use Rattle.network.specs.Lanes.{same_lane, is_first_on_lane, NoEarlier}
 
 module _ {C : Type 0} where
-  -- a message is on the lane of another if it has the sender and the receiver of that
+  -- a message is on the lane of another exactly if it has the same sender and receiver
   pub same_lane_parts : (x m : Message C) → IsTrue (same_lane x m) ↔ ((x.sender ≡ m.sender) × (x.receiver ≡ m.receiver))
   same_lane_parts x m = grind (arith, nat_tests)
 
