@@ -1,20 +1,20 @@
+ghost use Rattle.std.specs.Prelude.{◌≤◌};
+
 use kinds::fault::ContentFault;
 use kinds::kind::Kind;
-use std::process::Abort;
 
-// A length other than the kind's width is refused, and nothing is written.
-pub fn refuses_other_lengths<K: Kind>(rt: &impl Abort, width: usize, content: &K, filler: u8) {
-    for n in 0..66 {
-        let mut bytes = [filler; 66];
-        match K::read(&bytes[..n]) {
-            Ok(_) => assert_eq!(rt; n, width),
-            Err(fault) => assert!(rt; fault.is_length() && n != width),
-        }
-        let wrote = content.write(&mut bytes[0..n]);
-        assert_eq!(rt; wrote.is_ok(), n == width);
-        if let Err(fault) = wrote {
-            assert_eq!(rt; fault, ContentFault::WrongLength);
-            assert_eq!(rt; bytes, [filler; 66]);
-        }
-    }
+// Whether a length is refused exactly if it is not the kind's width, and nothing is written then.
+pub fn keeps_to_width<K: Kind>(width: usize, content: &K, filler: u8, n: usize) -> bool
+    requires { n ≤ 66 }
+{
+    let mut bytes = [filler; 66];
+    let read = match K::read(&bytes[..n]) {
+        Ok(_) => n == width,
+        Err(fault) => fault.is_length() && n != width,
+    };
+    let wrote = match content.write(&mut bytes[..n]) {
+        Ok(()) => n == width,
+        Err(fault) => n != width && fault == ContentFault::WrongLength && bytes == [filler; 66],
+    };
+    read && wrote
 }

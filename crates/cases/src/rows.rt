@@ -1,4 +1,4 @@
-use crate::lengths::refuses_other_lengths;
+use crate::lengths::keeps_to_width;
 use kinds::fault::ContentFault;
 use kinds::kind::Kind;
 use kinds::round::round_trip;
@@ -67,5 +67,7 @@ fn lengths(rt: HostRuntime) {
     let row = DayRow {
         hours: [HourMode::Comfort; 24],
     };
-    refuses_other_lengths(&rt, 6, &row, 0x55);
+    for n in 0..66 {
+        assert!(rt; keeps_to_width(6, &row, 0x55, n));
+    }
 }

@@ -10,6 +10,17 @@ use week::fault::CheckFault;
 use week::report::Refused;
 use week::verdict::Verdict;
 
+// The tests' own table, and not `Day::ALL`, by which loading names its days.
+static DAYS: [Day; 7] = [
+    Day::Monday,
+    Day::Tuesday,
+    Day::Wednesday,
+    Day::Thursday,
+    Day::Friday,
+    Day::Saturday,
+    Day::Sunday,
+];
+
 // What a refused week names; None for an accepted one. A refused one leaves both saves as they were.
 fn refused(rt: &impl Abort, bytes: &[u8]) -> Result<Option<RefusedDay>, Fail> {
     let mut first = [0xaau8; 42];
@@ -40,7 +51,7 @@ fn lengths(rt: HostRuntime) -> Result<(), Fail> {
             None
         } else if n < 42 {
             Some(RefusedDay {
-                day: Day::ALL[n / 6],
+                day: DAYS[n / 6],
                 fault,
             })
         } else {
@@ -63,7 +74,7 @@ fn bad_hours(rt: HostRuntime) -> Result<(), Fail> {
         bytes[at] = 0xc0;
         bytes[41] = 0xff;
         let expected = Some(RefusedDay {
-            day: Day::ALL[at / 6],
+            day: DAYS[at / 6],
             fault,
         });
         assert_eq!(rt; refused(&rt, &bytes[..42])?, expected);

@@ -18,6 +18,7 @@ pub struct Crossing<K> {
     /// whether it was compared with what was sent and found equal; the week is there in both cases
     pub equal: bool,
     /// the days in the order in which they were taken, by their numbers in the messages: Monday is 0
+    // Numbers and no `Day`s: the theorem on a crossing names what the messages carry, which need be no day.
     pub sequence: [usize; 7],
     pub posted: usize,
     pub taken: usize,
