@@ -12,7 +12,7 @@ use Rattle.crossing.specs.Crossing.{last_ready, next_place}
 
 module _ (ready : ℕ → Bool) where
   -- a place that is ready, behind which none is
-  last_here : (k x : ℕ) → x ≤ k → IsTrue (ready x) → ((j : ℕ) → x < j → j < suc k → ready j ≡ false) → x ≡ last_ready ready k
+  pub last_here : (k x : ℕ) → x ≤ k → IsTrue (ready x) → ((j : ℕ) → x < j → j < suc k → ready j ≡ false) → x ≡ last_ready ready k
   last_here zero x within is behind = omega arith
   last_here (suc k) x within is behind = grind (arith, last_here k x)
 

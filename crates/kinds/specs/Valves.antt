@@ -14,10 +14,10 @@ module _ (bs : List ℕ) (small : (k : ℕ) → slice_index bs k < 256) where
   bits_back = of_z-to_z w16 (slice_index bs 0 + 256 * slice_index bs 1) (omega (arith, small 0, small 1))
 
   -- the setpoint that two bytes stand for is written as them
-  setpoint_low : low_byte (setpoint_of bs) ≡ slice_index bs 0
+  pub setpoint_low : low_byte (setpoint_of bs) ≡ slice_index bs 0
   setpoint_low = let b = bits_back in omega (arith, small 0)
 
-  setpoint_high : high_byte (setpoint_of bs) ≡ slice_index bs 1
+  pub setpoint_high : high_byte (setpoint_of bs) ≡ slice_index bs 1
   setpoint_high = let b = bits_back in omega (arith, small 0)
 
 pub four_bytes : (bs : List ℕ) → length bs ≡ 4 → bs ≡ slice_index bs 0 ∷ slice_index bs 1 ∷ slice_index bs 2 ∷ slice_index bs 3 ∷ []

@@ -1,7 +1,7 @@
 ghost use Rattle.std.specs.Prelude.{◌≡◌, ◌<◌, length};
 
 use crate::fault::ContentFault;
-use crate::kind::{Kind, write_whole};
+use crate::kind::Kind;
 use std::array;
 
 /// What the heating does in one hour; each mode's number is its code in two bits.
@@ -125,6 +125,10 @@ impl Kind for DayRow {
     }
 
     fn write(&self, to: &mut [u8]) -> Result<(), ContentFault> {
-        write_whole::<6>(&array::from_fn(|i| self.packed(i)), to)
+        // Straight into the slice, and not by `write_whole`: copied from an array of their own, bytes
+        // that are each computed take a third more time.
+        let whole = to.as_mut_array::<6>().ok_or(ContentFault::WrongLength)?;
+        *whole = array::from_fn(|i| self.packed(i));
+        Ok(())
     }
 }

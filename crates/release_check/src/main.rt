@@ -7,7 +7,7 @@ use std::process::ExitCode;
 use std::{env, fs, io};
 use week::check::check_week;
 use week::reason::WEEK_BYTES;
-use week::report::{Accepted, Refused, Saved};
+use week::report::{Accepted, Refused};
 use week::verdict::Verdict;
 
 // One byte more than a week has, which is enough to see that a week is too long.
@@ -29,14 +29,7 @@ fn check(rt: &HostRuntime, bytes: &[u8]) -> io::Result<Verdict> {
     let mut second = [0u8; WEEK_BYTES];
     match check_week::<DayRow>(bytes, &mut first, &mut second) {
         Ok(checked) => {
-            rt.println(Accepted {
-                saved: Saved {
-                    week: &checked.week,
-                    first: &first,
-                    second: &second,
-                },
-                verdict: checked.verdict,
-            })?;
+            rt.println(Accepted::of(&checked, &first, &second))?;
             Ok(checked.verdict)
         }
         Err(fault) => {

@@ -8,10 +8,10 @@ use Rattle.week.specs.declared.day.Day.{Day}
 use Rattle.week.specs.Week.{day_index, day_part, week_days}
 
 -- the bytes of the first k days
-abbrev up_to : ℕ → List ℕ → ℕ → List ℕ
+abbrev pub up_to : ℕ → List ℕ → ℕ → List ℕ
 up_to width bs k = if nat_lt k 7 then take (k * width) bs else bs
 
-up_to_more : (width : ℕ) (bs : List ℕ) (k : ℕ) → k < 7 → up_to width bs k ++ day_part width bs k ≡ up_to width bs (k + 1)
+pub up_to_more : (width : ℕ) (bs : List ℕ) (k : ℕ) → k < 7 → up_to width bs k ++ day_part width bs k ≡ up_to width bs (k + 1)
 up_to_more width bs k h =
     let row : (k + 1) * width ≡ k * width + width = omega (arith, add-mul k 1 width) in
     grind (arith, nat_tests, take-add (k * width) width bs, take-append-drop (k * width) bs)

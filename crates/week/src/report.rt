@@ -8,7 +8,7 @@ use crate::day::Day;
 use crate::drawing::{Drawn, hours_in};
 use crate::fault::CheckFault;
 use crate::reason::{Reason, reason_of};
-use crate::verdict::Verdict;
+use crate::verdict::{Checked, Verdict};
 use crate::week::Week;
 use kinds::row::{DayRow, HourMode};
 use refusal::Refusal;
@@ -78,6 +78,25 @@ impl fmt::Display for Saved<'_> {
 pub struct Accepted<'a> {
     pub saved: Saved<'a>,
     pub verdict: Verdict,
+}
+
+impl<'a> Accepted<'a> {
+    /// The report on a week that was checked: its own days, and the verdict that its own check gave.
+    pub fn of(checked: &'a Checked<DayRow>, first: &'a [u8], second: &'a [u8]) -> Accepted<'a>
+        ensures week { result.saved.week.now ≡ checked.now.week }
+        ensures first { result.saved.first.now ≡ first.now }
+        ensures second { result.saved.second.now ≡ second.now }
+        ensures verdict { result.verdict ≡ checked.now.verdict }
+    {
+        Accepted {
+            saved: Saved {
+                week: &checked.week,
+                first,
+                second,
+            },
+            verdict: checked.verdict,
+        }
+    }
 }
 
 impl fmt::Display for Accepted<'_> {
